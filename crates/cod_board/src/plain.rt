@@ -1,0 +1,66 @@
+//! A board that nobody shares.
+ghost use Rattle.std.specs.Prelude.{◌≡◌, ◌<◌, ◌≤◌, None, IfOk, replicate};
+ghost use Rattle.cod_board.specs.Kills.{kill_of};
+
+use crate::{Board, Kill};
+use cod_types::{NodeId, OutOfMemory};
+use std::alloc::Global;
+use std::marker::Model;
+
+/// A board that nobody shares, seen as the kill of each node, if there is one.
+#[derive(Debug, Drop)]
+pub struct PlainBoard {
+    kills: Vec<Option<Kill>>,
+}
+
+impl Model for PlainBoard {
+    ghost use Rattle.std.specs.Prelude.{List, Option};
+    ghost use Rattle.cod_board.specs.declared.kill.Kill.{Kill};
+    ghost use Rattle.cod_board.specs.Kills.{HaveLines};
+
+    ghost Value = { List (Option Kill) };
+
+    ghost view = { λ b. b.kills.items };
+
+    ghost invariant = { λ b. HaveLines b.kills.items };
+}
+
+impl PlainBoard {
+    /// A board of so many nodes, 1 to 64, all of them up.
+    pub fn new(alloc: Global, nodes: u8) -> Result<PlainBoard, OutOfMemory>
+        requires some { 1 ≤ nodes }
+        requires most { nodes ≤ 64 }
+        ensures { IfOk result (λ b. b ≡ replicate nodes None) }
+    {
+        Ok(PlainBoard {
+            kills: vec![in alloc; None; nodes as usize]?,
+        })
+    }
+}
+
+impl Board for PlainBoard {
+    ghost use Rattle.std.specs.Prelude.{true};
+
+    ghost kills = { λ b. b };
+
+    ghost is_alone = { true };
+
+    ghost ready = { λ _. Unit {0} };
+
+    ghost same = { λ _ _. Unit {0} };
+
+    fn down(&mut self, node: NodeId) -> Option<Kill> {
+        self.kills[node.0 as usize]
+    }
+
+    fn kill(&mut self, node: NodeId, kill: Kill) {
+        let known = &mut self.kills[node.0 as usize];
+        if known.is_none() {
+            *known = Some(kill);
+        }
+    }
+
+    ghost same_self = { λ _. tt };
+
+    ghost same_later = { λ _ _ _ _ _. tt };
+}

@@ -1,0 +1,11 @@
+pub mod Growth
+pub mod Answering
+pub mod Legality
+pub mod Bytes_kept
+pub mod Orders
+pub mod Merging
+pub mod Entry_count
+pub mod Shares
+pub mod Rows
+pub mod Wrong_rows
+pub mod Whole_rows

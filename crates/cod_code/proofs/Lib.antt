@@ -1,0 +1,12 @@
+pub mod Bytes
+pub mod Polynomials
+pub mod Quotients
+pub mod Interpolation
+pub mod Places
+pub mod Rows
+pub mod CodewordLaws
+pub mod Encoding
+pub mod Decoding
+pub mod Count
+pub mod Sums
+pub mod Segments

@@ -1,0 +1,4 @@
+pub mod Home
+pub mod Rooms
+pub mod Spares
+pub mod Stores

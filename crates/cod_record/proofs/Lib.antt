@@ -1,0 +1,11 @@
+pub mod Bytes
+pub mod Heads
+pub mod Lengths
+pub mod Places
+pub mod Ranges
+pub mod Reading_back
+pub mod Spanning
+pub mod Sparse_texts
+pub mod Splitting
+pub mod Texts
+pub mod Zeros

@@ -1,0 +1,13 @@
+//! Regions of bytes on nodes, which may fail, and shelves that give them.
+#![tactic(auto)]
+
+mod faulty;
+mod memory;
+mod region;
+
+pub use faulty::{FaultyRegion, FaultyShelf};
+pub use memory::{MemRegion, MemShelf};
+pub use region::{Region, Shelf};
+
+#[cfg(test)]
+mod tests;

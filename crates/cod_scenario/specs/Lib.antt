@@ -1,0 +1,4 @@
+pub mod Plan
+pub mod Lines
+pub mod Form
+pub mod Owed

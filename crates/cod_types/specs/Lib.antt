@@ -1,0 +1,4 @@
+pub mod Limits
+pub mod Overwritten
+pub mod Faults
+pub mod Plain
