@@ -1,0 +1,5 @@
+pub mod One_segment
+pub mod Fronts
+pub mod Splits
+pub mod Names
+pub mod Back

@@ -1,0 +1,5 @@
+pub mod Printed
+pub mod Puts
+pub mod Pieces
+pub mod Unique
+pub mod Alone

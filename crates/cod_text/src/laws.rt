@@ -1,0 +1,15 @@
+//! Laws of printed texts, each the contract of a function that does nothing.
+ghost use Rattle.cod_text.specs.Alone.{IsPrintedAlone};
+ghost use Rattle.cod_text.specs.Unique.{IsReadOneWay};
+
+/// The text of one segment's chronicle has a line for each entry, in the chronicle's order.
+#[tactic(auto, using(crate::proofs::One_segment::printed_alone))]
+pub fn printed_alone()
+    ensures { IsPrintedAlone }
+{}
+
+/// For one scenario, chronicles with equal text are equal.
+#[tactic(auto, using(crate::proofs::Back::read_one_way))]
+pub fn read_one_way()
+    ensures { IsReadOneWay }
+{}

@@ -1,0 +1,162 @@
+-- What a replay has printed.
+use Rattle.std.proofs.Common.{◌≡◌, inl, inr, ℕ, zero, suc, ◌+◌, ◌<◌, ◌≤◌, Bool, true, false, cond, Option, Some, None, List, [], ◌∷◌, ◌++◌, length, map, get_or, refl, sym, ap, ◌∙◌, subst, arith, true≢false}
+use Rattle.std.specs.Prelude.{is_some, not, nat_lt, ◌||◌}
+use Rattle.std.specs.List.{flat_map, range_with_len, AllPairs}
+use Rattle.std.proofs.Math.Nat.{mul-le-mul_right}
+use Rattle.std.proofs.lemmas.Bool.Decides.{nat_tests}
+use Rattle.std.proofs.lemmas.List.FromFn.{length-range_with_len, get_or-range_with_len}
+use Rattle.cod_types.specs.Limits.{Shape, first_bad}
+use Rattle.cod_region.specs.Device.{Device}
+use Rattle.cod_chronicle.specs.declared.entry.Entry.{Entry}
+use Rattle.cod_chronicle.specs.Said.{site_of, site_as, stamp_of, RisesFrom, StampsRise, numbers_by, IsChronicle, is_down, is_over, node_of}
+use Rattle.cod_chronicle.specs.Legal.{node_id}
+use Rattle.cod_chronicle.specs.Order.{Placed, place}
+use Rattle.cod_scenario.specs.Plan.{Plan, Ask}
+use Rattle.cod_scenario.specs.Owed.{owed}
+use Rattle.cod_scenario.specs.Form.{IsBuilt}
+use Rattle.cod_text.specs.Printed.{line_text, layout_text, chronicle_text}
+use Rattle.codfs_tool.specs.Blocks.{device_at}
+use Rattle.codfs_tool.specs.Begun.{AreFresh}
+use Rattle.codfs_tool.specs.Standing.{CountsFrom, Standing}
+use Rattle.codfs_tool.specs.Lines.{device_text, devices_text}
+use Rattle.codfs_tool.specs.Replays.{column_line, column_text, columns_text, nodes_text, Ran}
+use Rattle.codfs_tool.proofs.Beginning.{standing_begins}
+use Rattle.codfs_tool.proofs.Changes.{equal_or_not}
+use Rattle.codfs_tool.proofs.Histories.{one_order, is_history, no_numbers}
+use Rattle.codfs_tool.proofs.Steps.{on_its_node}
+
+-- ---- before the first call
+
+none_first : {X : Type 0} (o : Bool) (x : X) (rest : Option X) → cond o (Some x) rest ≡ None → o ≡ false
+none_first true x rest e = cc
+none_first false x rest e = refl
+
+-- a geometry within its limits has 1 to 16 columns
+pub some_columns : (g : Shape) → first_bad g ≡ None → (1 ≤ g.n) × (g.n ≤ 16)
+some_columns g e = by (none_first (nat_lt g.n 1 || nat_lt 16 g.n) _ _ e) where
+  by : (nat_lt g.n 1 || nat_lt 16 g.n) ≡ false → (1 ≤ g.n) × (g.n ≤ 16)
+  by f = (grind (arith, nat_tests), grind (arith, nat_tests))
+
+pub begins : (told : Bool) (never : ℕ → Bool) (x : Plan) (ds : List Device) (unmarked : List Bool) → IsBuilt x → AreFresh x.shape.block never x.shape.k ds unmarked
+    → ((j : ℕ) → j < length ds → is_some (device_at ds j).content ≡ told) → Standing told (map never (range_with_len 0 x.shape.n)) x.shape x.nodes ds unmarked false [] []
+begins told never x ds unmarked b a telling =
+    let some = some_columns x.shape b.shape in
+    let low = mul-le-mul_right {m = x.shape.k} {n = 16} x.shape.block (let p = b.no_parity in omega arith) in
+    standing_begins told never x.shape x.nodes ds unmarked a b.no_parity b.columns some.1 (omega (arith, low, b.block)) telling
+
+-- ---- the chronicle
+
+rises : (n : ℕ) (t : ℕ) (h : List Entry) → t < n → CountsFrom n h → RisesFrom t h
+rises n t [] lt c = tt
+rises n t (e ∷ h) lt c = (inl (let k = c.0 in omega arith), rises (n + 1) (stamp_of e) h (let k = c.0 in omega arith) c.1)
+
+stamps_rise : (h : List Entry) → CountsFrom 1 h → StampsRise h
+stamps_rise [] c = tt
+stamps_rise (e ∷ h) c = rises 2 (stamp_of e) h (let k = c.0 in omega arith) c.1
+
+range_rises : (ms : List ℕ) (n : ℕ) → ms ≡ range_with_len 0 n → AllPairs (λ m k. m < k) ms
+range_rises ms n e i j d lt within =
+    let size = ap length e ∙ length-range_with_len 0 n in
+    let first : get_or ms i d ≡ 0 + i = ap (λ (l : List ℕ). get_or l i d) e ∙ get_or-range_with_len 0 n i d (omega arith) in
+    let second : get_or ms j d ≡ 0 + j = ap (λ (l : List ℕ). get_or l j d) e ∙ get_or-range_with_len 0 n j d (omega arith) in
+    omega arith
+
+chronicle_of : (told : Bool) (sure : List Bool) (g : Shape) (nodes : ℕ) (ds : List Device) (unmarked : List Bool) (lost : Bool) (h : List Entry) (asked : List Ask)
+    → Standing told sure g nodes ds unmarked lost h asked → IsChronicle h
+chronicle_of told sure g nodes ds unmarked lost h asked s = record {
+  stamps = stamps_rise h s.stamps;
+  numbers = λ who. elim (equal_or_not who 0) [
+    | inl same ↦ range_rises (numbers_by who h) (length asked) (ap (λ (w : ℕ). numbers_by w h) same ∙ s.numbers)
+    | inr other ↦ range_rises (numbers_by who h) 0 (no_numbers sure who h other s.entries)
+  ];
+}
+
+-- ---- the text
+
+texts_same : (f k : ℕ → List ℕ) (a n : ℕ) → ((j : ℕ) → a ≤ j → j < a + n → f j ≡ k j) → flat_map f (range_with_len a n) ≡ flat_map k (range_with_len a n)
+texts_same f k a zero same = refl
+texts_same f k a (suc n) same =
+    ap (λ (l : List ℕ). l ++ flat_map f (range_with_len (a + 1) n)) (same a (omega arith) (omega arith))
+    ∙ ap (λ (l : List ℕ). k a ++ l) (texts_same f k (a + 1) n (λ j low high. same j (omega arith) (omega arith)))
+
+placed_text : (f : Placed → List ℕ) (s : ℕ) (h : List Entry) → flat_map f (map (λ e. place s e) h) ≡ flat_map (λ e. f (place s e)) h
+placed_text f s [] = refl
+placed_text f s (e ∷ h) = ap (λ (l : List ℕ). f (place s e) ++ l) (placed_text f s h)
+
+column_is : (x : Plan) (h : List Entry) (j node : ℕ) (up up' : Bool) (len : ℕ) (d : Device) → node ≡ j → up ≡ up' → d.size ≡ len
+    → device_text x j up d ≡ layout_text x (record { seg = record { 0 = 0 }; col = j; node = node_id node; up = up'; len = len; parity = None; reads = d.reads; writes = d.writes })
+unfolding device_text
+column_is x h j node up up' len d n u l =
+    ap (λ (k : ℕ). layout_text x (record { seg = record { 0 = 0 }; col = j; node = node_id k; up = up; len = d.size; parity = None; reads = d.reads; writes = d.writes })) (sym n)
+    ∙ ap (λ (o : Bool). layout_text x (record { seg = record { 0 = 0 }; col = j; node = node_id node; up = o; len = d.size; parity = None; reads = d.reads; writes = d.writes })) u
+    ∙ ap (λ (k : ℕ). layout_text x (record { seg = record { 0 = 0 }; col = j; node = node_id node; up = up'; len = k; parity = None; reads = d.reads; writes = d.writes })) l
+
+column_text_is : (x : Plan) (h : List Entry) (reads writes : ℕ → ℕ) (j : ℕ) → layout_text x (column_line x h reads writes j) ≡ column_text x h reads writes j
+unfolding column_text
+column_text_is x h reads writes j = refl
+
+-- the text that was printed is that of the history
+text_is : (told : Bool) (sure : List Bool) (x : Plan) (ds : List Device) (unmarked : List Bool) (lost : Bool) (h : List Entry) (asked : List Ask) (n : ℕ)
+    → Standing told sure x.shape x.nodes ds unmarked lost h asked → n ≡ x.shape.n
+    → (flat_map (λ e. line_text x (place 0 e)) h ++ (devices_text x ds unmarked n ++ nodes_text x))
+    ≡ (chronicle_text x (h ∷ []) ++ (columns_text x h (λ j. (device_at ds j).reads) (λ j. (device_at ds j).writes) ++ nodes_text x))
+text_is told sure x ds unmarked lost h asked n s count =
+    let reads : ℕ → ℕ = λ j. (device_at ds j).reads in
+    let writes : ℕ → ℕ = λ j. (device_at ds j).writes in
+    let first : flat_map (λ e. line_text x (place 0 e)) h ≡ chronicle_text x (h ∷ []) = sym (ap (flat_map (λ p. line_text x p)) (one_order h s.stamps) ∙ placed_text (λ p. line_text x p) 0 h) in
+    let each : (j : ℕ) → 0 ≤ j → j < 0 + x.shape.n → device_text x j (get_or unmarked j false) (device_at ds j) ≡ column_text x h reads writes j = λ j low high.
+    let size = s.count in
+    let enough = s.enough in
+    column_is x h j (node_of (site_of x.shape x.nodes 0) h j) (get_or unmarked j false) (not (is_down h j)) x.shape.block (device_at ds j)
+    (on_its_node true sure x.shape x.nodes j h s.entries (omega arith)) (s.unmarked_live j (omega arith)) (s.sized j (omega arith))
+    ∙ column_text_is x h reads writes j in
+    let second : devices_text x ds unmarked n ≡ columns_text x h reads writes = ap (devices_text x ds unmarked) count ∙ texts_same (λ j. device_text x j (get_or unmarked j false) (device_at ds j)) (column_text x h reads writes) 0 x.shape.n each in
+    ap (λ (l : List ℕ). l ++ (devices_text x ds unmarked n ++ nodes_text x)) first ∙ ap (λ (l : List ℕ). chronicle_text x (h ∷ []) ++ (l ++ nodes_text x)) second
+
+lost_or_not : (lost o : Bool) → (lost ≡ true → o ≡ true) → o ≡ false → lost ≡ false
+lost_or_not true o f e = absurd (true≢false (sym (f refl) ∙ e))
+lost_or_not false o f e = refl
+
+-- A run that has made all calls has printed its history.
+pub ran : (Tells : Type 0) (Took : List ℕ → Type 0) (told : Bool) (never : ℕ → Bool) (x : Plan) (ds : List Device) (unmarked : List Bool) (lost : Bool) (h : List Entry) (asked : List Ask) (n : ℕ)
+    → IsBuilt x → (Tells → told ≡ true) → Standing told (map never (range_with_len 0 x.shape.n)) x.shape x.nodes ds unmarked lost h asked → asked ≡ owed x 0 → n ≡ x.shape.n
+    → Took (flat_map (λ e. line_text x (place 0 e)) h ++ (devices_text x ds unmarked n ++ nodes_text x)) → Ran Tells never x Took
+ran Tells Took told never x ds unmarked lost h asked n b telling s all count took = record {
+  told = told;
+  telling = telling;
+  prints = record {
+    chronicle = h;
+    history = is_history told never x ds unmarked lost h asked b s all (chronicle_of told _ x.shape x.nodes ds unmarked lost h asked s);
+    stamps = s.stamps;
+    reads = λ j. (device_at ds j).reads;
+    writes = λ j. (device_at ds j).writes;
+    counts = λ few j lt. let fine = lost_or_not lost (is_over (site_as told x.shape x.nodes 0) h) s.over few in (s.reads fine j lt, s.writes fine j lt);
+    printed = subst Took (text_is told _ x ds unmarked lost h asked n s count) took;
+  };
+}
+
+-- the same, where the numbers are those of the scenario
+pub started : (told : Bool) (never : ℕ → Bool) (x : Plan) (g : Shape) (nodes : ℕ) (ds : List Device) (unmarked : List Bool) (lost : Bool) (h : List Entry) → IsBuilt x → g ≡ x.shape → nodes ≡ x.nodes → lost ≡ false → h ≡ []
+    → AreFresh g.block never g.k ds unmarked → ((j : ℕ) → j < length ds → is_some (device_at ds j).content ≡ told) → Standing told (map never (range_with_len 0 x.shape.n)) g nodes ds unmarked lost h []
+started told never x g nodes ds unmarked lost h b shape count fine empty a telling =
+    let sure = map never (range_with_len 0 x.shape.n) in
+    let fresh = subst (λ (s : Shape). AreFresh s.block never s.k ds unmarked) shape a in
+    let s = begins told never x ds unmarked b fresh telling in
+    subst (λ (k : List Entry). Standing told sure g nodes ds unmarked lost k []) (sym empty)
+    (subst (λ (o : Bool). Standing told sure g nodes ds unmarked o [] []) (sym fine)
+    (subst (λ (n : ℕ). Standing told sure g n ds unmarked false [] []) (sym count)
+    (subst (λ (k : Shape). Standing told sure k x.nodes ds unmarked false [] []) (sym shape) s)))
+
+-- where all regions tell, the first one does
+pub first_tells : {X : Type 0} (f : X → Device) (xs : List X) → 0 < length xs → ((x : X) → is_some (f x).content ≡ true) → is_some (device_at (map f xs) 0).content ≡ true
+first_tells f [] some tells = absurd (omega arith)
+first_tells f (x ∷ xs) some tells = tells x
+
+pub ran_there : (Tells : Type 0) (Took : List ℕ → Type 0) (told : Bool) (never : ℕ → Bool) (x : Plan) (g : Shape) (nodes : ℕ) (ds : List Device) (unmarked : List Bool) (lost : Bool) (h : List Entry) (asked : List Ask) (n : ℕ)
+    → IsBuilt x → (Tells → told ≡ true) → g ≡ x.shape → nodes ≡ x.nodes → Standing told (map never (range_with_len 0 x.shape.n)) g nodes ds unmarked lost h asked → asked ≡ owed x 0 → n ≡ length ds
+    → Took (flat_map (λ e. line_text x (place 0 e)) h ++ (devices_text x ds unmarked n ++ nodes_text x)) → Ran Tells never x Took
+ran_there Tells Took told never x g nodes ds unmarked lost h asked n b telling shape count s all columns took =
+    let sure = map never (range_with_len 0 x.shape.n) in
+    let first = subst (λ (k : Shape). Standing told sure k nodes ds unmarked lost h asked) shape s in
+    let second = subst (λ (m : ℕ). Standing told sure x.shape m ds unmarked lost h asked) count first in
+    ran Tells Took told never x ds unmarked lost h asked n b telling second all (columns ∙ second.count) took

@@ -1,0 +1,10 @@
+pub mod Told
+pub mod Parts
+pub mod Changes
+pub mod Cut
+pub mod Steps
+pub mod Beginning
+pub mod Histories
+pub mod Texts
+pub mod Slips
+pub mod Final

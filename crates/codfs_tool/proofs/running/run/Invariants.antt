@@ -1,0 +1,24 @@
+use Rattle.std.proofs.Common.{◌≡◌, ◌≤◌, ◌+◌, ◌*◌, ◌++◌, List, [], Bool, length, map}
+use Rattle.std.specs.Option.{is_some}
+use Rattle.cod_scenario.specs.Plan.{Ask}
+use Rattle.codfs_tool.specs.Ready.{AreReady, asks_of}
+use Rattle.codfs_tool.specs.Standing.{Standing, IsRunning, asked_of}
+use Rattle.codfs_tool.proofs.running.run.Given as goal
+
+abbrev pub invariant-slips : goal.invariant-slips
+invariant-slips g l = record {
+  geometry : l.segment.geometry ≡ l.fn.segment.geometry;
+  nodes : l.segment.nodes ≡ l.fn.segment.nodes;
+  ready : AreReady l.segment.geometry l.slips.items;
+  few : l.number + length l.slips.items ≤ 1000;
+  short : length l.segment.chronicle ≤ 2 * l.number;
+  count : l.number ≡ length (asked_of l.segment.chronicle);
+  running : IsRunning l.segment.geometry l.segment.nodes (map g.R.Region.device l.segment.regions.items) (map is_some l.segment.marks.items) l.segment.lost l.segment.chronicle;
+  stands : (told : Bool) (sure : List Bool)
+      → Standing told sure l.fn.segment.geometry l.fn.segment.nodes (map g.R.Region.device l.fn.segment.regions.items) (map is_some l.fn.segment.marks.items) l.fn.segment.lost l.fn.segment.chronicle []
+      → (done : List Ask) × (done ++ asks_of l.slips.items ≡ asks_of l.fn.slips.items)
+      × Standing told sure l.fn.segment.geometry l.fn.segment.nodes (map g.R.Region.device l.segment.regions.items) (map is_some l.segment.marks.items) l.segment.lost l.segment.chronicle done;
+}
+
+abbrev pub decreases-slips : goal.decreases-slips
+decreases-slips g l = length l.slips.items

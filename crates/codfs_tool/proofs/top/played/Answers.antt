@@ -1,0 +1,56 @@
+use Rattle.std.proofs.Common.{ℕ, Bool, List, map, sym, ap, ◌∙◌, subst, arith}
+use Rattle.std.specs.List.{range_with_len}
+use Rattle.std.specs.Option.{is_some}
+use Rattle.std.proofs.lemmas.List.{length-map}
+use Rattle.cod_types.specs.Limits.{Shape}
+use Rattle.cod_chronicle.specs.Legal.{node_id}
+use Rattle.cod_scenario.specs.Plan.{Ask, asks}
+use Rattle.codfs_tool.specs.Blocks.{device_at}
+use Rattle.codfs_tool.specs.Ready.{asks_of}
+use Rattle.codfs_tool.specs.Standing.{Standing, asked_of}
+use Rattle.codfs_tool.proofs.Beginning.{each_told}
+use Rattle.codfs_tool.proofs.Final.{some_columns, started, first_tells}
+use Rattle.codfs_tool.proofs.top.played.Goals as goal
+
+pub run-requires-clause-running : goal.run-requires-clause-running
+run-requires-clause-running g c =
+    let f = g.H.Region.Region.device in
+    let seg = c.in-Ok.segment in
+    let x = c.args.scenario.now in
+    let n = c.in-Ok.ensures.numbers in
+    let ds = map f seg.regions.items in
+    let never : ℕ → Bool = λ j. g.H.Shelf.never_fails c.args.shelf.now (node_id j) in
+    let sure = map never (range_with_len 0 x.shape.n) in
+    let told = is_some (device_at ds 0).content in
+    let same = length-map seg.regions.items f in
+    let s = started told never x seg.geometry seg.nodes ds (map is_some seg.marks.items) seg.lost seg.chronicle c.requires (n.0 ∙ c.geometry.ensures) (n.1 ∙ c.nodes.ensures) n.2 n.3
+    (rw (n.0) c.in-Ok.ensures.fresh) (λ j lt. each_told f g.met.H.Region.Region.telling seg.regions.items j (omega arith)) in
+    (told, sure, subst (λ (l : List Ask). Standing told sure seg.geometry seg.nodes ds (map is_some seg.marks.items) seg.lost seg.chronicle l) (sym (ap asked_of n.3)) s)
+
+pub returns : goal.returns
+returns g c =
+    let f = g.H.Region.Region.device in
+    let seg = c.in-Ok.segment in
+    let end = c.run.new.segment in
+    let x = c.args.scenario.now in
+    let n = c.in-Ok.ensures.numbers in
+    let ds = map f seg.regions.items in
+    let never : ℕ → Bool = λ j. g.H.Shelf.never_fails c.args.shelf.now (node_id j) in
+    let sure = map never (range_with_len 0 x.shape.n) in
+    let told = is_some (device_at ds 0).content in
+    let same = length-map seg.regions.items f in
+    let shape = n.0 ∙ c.geometry.ensures in
+    let s = started told never x seg.geometry seg.nodes ds (map is_some seg.marks.items) seg.lost seg.chronicle c.requires shape (n.1 ∙ c.nodes.ensures) n.2 n.3
+    (rw (n.0) c.in-Ok.ensures.fresh) (λ j lt. each_told f g.met.H.Region.Region.telling seg.regions.items j (omega arith)) in
+    let some = some_columns x.shape c.requires.shape in
+    let after = c.run.ensures.stands told sure s in
+    let asked = c.in-Ok-slips.ensures.calls ∙ ap asks c.lines.ensures in
+    let ds' = map f end.regions.items in
+    let slips = c.in-Ok-slips.slips.items in
+    record {
+      told = told;
+      telling = λ tells. first_tells f seg.regions.items (omega (arith, same, s.count, ap (λ (k : Shape). k.n) shape, some.0)) tells;
+      stands = subst (λ (l : List Ask). Standing told sure x.shape x.nodes ds' (map is_some end.marks.items) end.lost end.chronicle l) asked
+          (subst (λ (m : ℕ). Standing told sure x.shape m ds' (map is_some end.marks.items) end.lost end.chronicle (asks_of slips)) (n.1 ∙ c.nodes.ensures)
+          (subst (λ (k : Shape). Standing told sure k seg.nodes ds' (map is_some end.marks.items) end.lost end.chronicle (asks_of slips)) shape after));
+    }

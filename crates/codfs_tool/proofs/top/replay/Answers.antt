@@ -1,0 +1,43 @@
+use Rattle.std.proofs.Common.{ℕ, Bool, length, map, refl, sym, ◌∙◌, arith}
+use Rattle.std.specs.Option.{is_some}
+use Rattle.std.proofs.lemmas.List.{length-map}
+use Rattle.cod_chronicle.specs.Legal.{node_id}
+use Rattle.cod_text.specs.Puts.{TakesFront}
+use Rattle.cod_scenario.specs.Owed.{owed}
+use Rattle.codfs_tool.specs.Replays.{TakesAll}
+use Rattle.codfs_tool.proofs.Final.{ran}
+use Rattle.codfs_tool.proofs.top.replay.Goals as goal
+
+pub print-requires-clause-few : goal.print-requires-clause-few
+print-requires-clause-few g c =
+    let seg = c.in-Ok.segment in
+    let s = c.in-Ok.ensures.stands in
+    omega (arith, length-map seg.regions.items g.H.Region.Region.device, s.count, s.few)
+
+pub print-requires-clause-marks : goal.print-requires-clause-marks
+print-requires-clause-marks g c =
+    let seg = c.in-Ok.segment in
+    let s = c.in-Ok.ensures.stands in
+    omega (arith, length-map seg.regions.items g.H.Region.Region.device, length-map seg.marks.items is_some, s.count, s.marks)
+
+pub returns-in-Ok-print-clause-done : goal.returns-in-Ok-print-clause-done
+returns-in-Ok-print-clause-done g c = λ _.
+    let f = g.H.Region.Region.device in
+    let seg = c.in-Ok.segment in
+    let x = c.args.scenario.now in
+    let r = c.in-Ok.ensures in
+    let never : ℕ → Bool = λ j. g.H.Shelf.never_fails c.args.shelf.now (node_id j) in
+    let count = sym (length-map seg.regions.items f) ∙ r.stands.count in
+    ran _ (TakesAll (g.W.Sink.taken c.args.sink.now) (g.W.Sink.taken c.print.new.sink)) r.told never x (map f seg.regions.items) (map is_some seg.marks.items) seg.lost seg.chronicle (owed x 0) (length seg.regions.items)
+    c.requires r.telling r.stands refl count c.in-Ok-print.ensures.text
+
+pub returns-in-Ok-clause-front : goal.returns-in-Ok-clause-front
+returns-in-Ok-clause-front g c = λ _.
+    let f = g.H.Region.Region.device in
+    let seg = c.in-Ok.segment in
+    let x = c.args.scenario.now in
+    let r = c.in-Ok.ensures in
+    let never : ℕ → Bool = λ j. g.H.Shelf.never_fails c.args.shelf.now (node_id j) in
+    let count = sym (length-map seg.regions.items f) ∙ r.stands.count in
+    ran _ (TakesFront (g.W.Sink.taken c.args.sink.now) (g.W.Sink.taken c.print.new.sink)) r.told never x (map f seg.regions.items) (map is_some seg.marks.items) seg.lost seg.chronicle (owed x 0) (length seg.regions.items)
+    c.requires r.telling r.stands refl count c.in-Err-print.ensures.text
