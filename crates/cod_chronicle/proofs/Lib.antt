@@ -4,6 +4,7 @@ pub mod Legality
 pub mod Bytes_kept
 pub mod Orders
 pub mod Merging
+pub mod Walking
 pub mod Entry_count
 pub mod Shares
 pub mod Rows

@@ -4,3 +4,4 @@ pub mod Order
 pub mod Standing
 pub mod Whole
 pub mod Laws
+pub mod Walk

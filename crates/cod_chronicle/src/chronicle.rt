@@ -112,10 +112,7 @@ impl Chronicle {
         ensures chronicle { IsChronicle self.now }
     {
         match self.entries.back() {
-            Some(Entry::Call { stamp, .. })
-            | Some(Entry::Down { stamp, .. })
-            | Some(Entry::Up { stamp, .. })
-            | Some(Entry::Move { stamp, .. }) => *stamp,
+            Some(entry) => entry.stamp(),
             None => 0,
         }
     }

@@ -1,4 +1,7 @@
 //! What a chronicle is made of.
+ghost use Rattle.std.specs.Prelude.{◌≡◌};
+ghost use Rattle.cod_chronicle.specs.Said.{stamp_of};
+
 use cod_types::{Call, Caller, NodeId, Reply};
 
 /// Why a column went down.
@@ -41,4 +44,18 @@ pub enum Entry {
         col: u8,
         node: NodeId,
     },
+}
+
+impl Entry {
+    /// Its stamp.
+    pub fn stamp(&self) -> u64
+        ensures { result ≡ stamp_of self.now }
+    {
+        match self {
+            Entry::Call { stamp, .. }
+            | Entry::Down { stamp, .. }
+            | Entry::Up { stamp, .. }
+            | Entry::Move { stamp, .. } => *stamp,
+        }
+    }
 }

@@ -5,6 +5,7 @@ mod chronicle;
 mod entry;
 mod laws;
 mod stands;
+mod walk;
 
 pub use chronicle::{Chronicle, Entries, Link};
 pub use entry::{Cause, Entry};
@@ -13,6 +14,7 @@ pub use laws::{
     lost_for_good, says_next, was_legal,
 };
 pub use stands::Stands;
+pub use walk::{Merged, Placed, merge_order};
 
 #[cfg(test)]
 mod tests;

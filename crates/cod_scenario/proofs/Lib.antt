@@ -1,2 +1,14 @@
-pub mod Fronts
-pub mod Numbered
+pub mod Keys
+pub mod EachKnown
+pub mod AllLines
+pub mod LineCount
+pub mod RoomSums
+pub mod NameBytes
+pub mod Gathering
+pub mod Accepting
+pub mod Totals
+pub mod Soundness
+pub mod Keeping
+pub mod Finishing
+pub mod Spacing
+pub mod TextSound

@@ -1,4 +1,8 @@
 pub mod Plan
 pub mod Lines
-pub mod Form
+pub mod Judge
+pub mod Reads
+pub mod Sound
+pub mod Reading
+pub mod Text
 pub mod Owed

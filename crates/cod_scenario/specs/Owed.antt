@@ -1,18 +1,17 @@
 -- What a whole history owes to its scenario.
-use Rattle.std.specs.Prelude.{◌≡◌, ◌⊎◌, ℕ, ◌+◌, ◌*◌, ◌-◌, ◌%◌, ◌<◌, ◌≤◌, ◌^◌, ◌==◌, ◌&&◌, nat_lt, if◌then◌else◌, IsTrue, Bool, true, false, Option, Some, None, List, [], ◌∷◌, ◌++◌, length, map, slice_get}
+use Rattle.std.specs.Prelude.{◌≡◌, ℕ, ◌+◌, ◌*◌, ◌-◌, ◌%◌, ◌<◌, ◌≤◌, ◌^◌, ◌==◌, ◌&&◌, nat_lt, if◌then◌else◌, IsTrue, Bool, true, false, Option, Some, None, List, [], ◌∷◌, ◌++◌, length, map, slice_get}
 use Rattle.std.specs.List.{All, filter_map, range_with_len, list_any}
 use Rattle.cod_types.specs.declared.call.NodeId.{NodeId}
 use Rattle.cod_types.specs.declared.call.Call.TheVariants as call
 use Rattle.cod_types.specs.declared.call.Reply.{Reply}
 use Rattle.cod_types.specs.declared.call.Reply.TheVariants.{Bytes, Done, Range, Long, Lost, Whole, Rebuilt, NoSpare, NoMem, Shifted, Clear, Differs}
-use Rattle.cod_types.specs.declared.reasons.Reason.{Reason}
 use Rattle.cod_types.specs.declared.reasons.Why.{Why}
 use Rattle.cod_types.specs.declared.reasons.Why.TheVariants as why
 use Rattle.cod_chronicle.specs.declared.entry.Entry.{Entry}
 use Rattle.cod_chronicle.specs.declared.entry.Entry.TheVariants.{Call, Down, Up, Move}
 use Rattle.cod_chronicle.specs.declared.entry.Cause.{Cause}
 use Rattle.cod_chronicle.specs.declared.entry.Cause.TheVariants.{Killed, Fault}
-use Rattle.cod_chronicle.specs.Said.{Site, site_of, is_down, node_of, stamp_of, number_by}
+use Rattle.cod_chronicle.specs.Said.{Site, site_of, is_down, node_of, number_by}
 use Rattle.cod_chronicle.specs.Order.{Placed, stamp_at, placed, order}
 use Rattle.cod_chronicle.specs.Whole.{IsWholeLegalAs}
 use Rattle.cod_scenario.specs.declared.line.Line.{Line}

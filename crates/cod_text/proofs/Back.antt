@@ -25,7 +25,8 @@ use Rattle.cod_chronicle.specs.Order.{Placed, place, placed, placed_from, order}
 use Rattle.cod_chronicle.proofs.Orders.{Each-append, Each-weaker, Each-by_stamp}
 use Rattle.cod_chronicle.proofs.Merging.{same_chronicles}
 use Rattle.cod_scenario.specs.Plan.{Plan}
-use Rattle.cod_text.specs.Printed.{hex_word, call_words, why_text, reason_word, reply_words, cause_words, segment_word, caller_word, what_words, entry_words}
+use Rattle.cod_print.specs.Pieces.{hex_word}
+use Rattle.cod_text.specs.Printed.{call_words, why_text, reason_word, reply_words, cause_words, segment_word, caller_word, what_words, entry_words}
 use Rattle.cod_text.specs.Unique.{IsWord, Fits, CallFits, WhyFits, ReplyFits, CauseFits, EntryFits, IsReadOneWay}
 use Rattle.cod_text.proofs.Names.{HasWords, has_words}
 use Rattle.cod_text.proofs.Splits.{Without, lines_same, IsWord-decimal, IsWord-hex, word_from}

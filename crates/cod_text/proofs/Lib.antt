@@ -1,5 +1,6 @@
 pub mod One_segment
-pub mod Fronts
+pub mod Spacing
+mod Within
 pub mod Splits
 pub mod Names
 pub mod Back

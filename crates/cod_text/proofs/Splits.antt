@@ -7,7 +7,8 @@ use Rattle.std.proofs.lemmas.List.{append_assoc}
 use Rattle.std.proofs.lemmas.Fmt.{decimal_by_steps}
 use Rattle.hex.specs.Hex.{encode_lower, encode_with, lower_digits, IsBytes}
 use Rattle.cod_chronicle.proofs.Orders.{Each-append, Each-weaker}
-use Rattle.cod_text.specs.Printed.{hex_word, line_of}
+use Rattle.cod_print.specs.Pieces.{hex_word}
+use Rattle.cod_text.specs.Printed.{line_of}
 use Rattle.cod_text.specs.Unique.{IsWord}
 
 abbrev pub Without : ℕ → List ℕ → Type 0

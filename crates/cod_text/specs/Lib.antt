@@ -1,5 +1,4 @@
 pub mod Printed
-pub mod Puts
-pub mod Pieces
 pub mod Unique
 pub mod Alone
+pub mod Summary

@@ -1,7 +1,7 @@
 -- The texts that are printed of a run: its chronicles, its columns and its nodes.
 use Rattle.std.specs.Prelude.{ℕ, Bool, true, false, Option, Some, None, ◌-◌, nat_lt, if◌then◌else◌, List, [], ◌∷◌, ◌++◌, length, map, codes, decimal, slice_index_or}
 use Rattle.std.specs.List.{flat_map, join_with_byte}
-use Rattle.hex.specs.Hex.{encode_lower}
+use Rattle.cod_print.specs.Pieces.{hex_word}
 use Rattle.cod_types.specs.declared.call.Call.{Call as Asked}
 use Rattle.cod_types.specs.declared.call.Call.TheVariants.{Read, Write, Swap, Put, Merge, Tick, Rebuild, Upgrade, Drain}
 use Rattle.cod_types.specs.declared.call.Reply.{Reply}
@@ -18,11 +18,6 @@ use Rattle.cod_chronicle.specs.Order.{Placed, order}
 use Rattle.cod_types.specs.declared.layout.LayoutLine.{LayoutLine}
 use Rattle.cod_types.specs.declared.layout.ParityLine.{ParityLine}
 use Rattle.cod_scenario.specs.Plan.{Plan, nobody}
-
--- no bytes, or two digits for each
-abbrev pub hex_word : List ℕ → List ℕ
-hex_word [] = codes "-"
-hex_word (b ∷ bs) = encode_lower (b ∷ bs)
 
 -- words with a space between two of them, and the line's end
 abbrev pub line_of : List (List ℕ) → List ℕ

@@ -2,16 +2,16 @@
 //! written a front of its text.
 #![tactic(auto)]
 
-mod fault;
+mod chronicles;
 mod laws;
 mod lines;
-mod piece;
-mod put;
+mod summing;
+mod tally;
 
-pub use fault::WriteFault;
+pub use chronicles::chronicle;
 pub use laws::{printed_alone, read_one_way};
 pub use lines::{entry, layout, node, segment};
-pub use put::text;
+pub use summing::summary;
 
 #[cfg(test)]
 mod tests;

@@ -3,15 +3,13 @@ ghost use Rattle.std.specs.Prelude.{◌≡◌, ◌++◌, ◌<◌, [], ◌∷◌,
 ghost use Rattle.std.specs.List.{flat_map};
 ghost use Rattle.cod_types.specs.Faults.{HasCause};
 ghost use Rattle.cod_chronicle.specs.Order.{place};
-ghost use Rattle.cod_text.specs.Puts.{Puts};
-ghost use Rattle.cod_text.specs.Pieces.{piece_text, spaced};
+ghost use Rattle.cod_print.specs.Puts.{Puts};
+ghost use Rattle.cod_print.specs.Pieces.{piece_text, spaced};
 ghost use Rattle.cod_text.specs.Printed.{call_words, caller_word, cause_words, layout_text, line_text, node_text, parity_words, reason_word, reply_words, segment_word, state_word, why_text};
 
-use crate::WriteFault;
-use crate::piece::Piece;
-use crate::put::{pieces, text};
 use cod_chronicle::{Cause, Chronicle, Entry};
 use cod_io::Sink;
+use cod_print::{Piece, WriteFault, pieces, text};
 use cod_scenario::Scenario;
 use cod_types::{Call, Caller, LayoutLine, NodeId, ParityLine, Reason, Reply, SegId, Why};
 

@@ -10,6 +10,8 @@ use Rattle.cod_region.specs.Device.{Device, Zeros}
 use Rattle.codfs_tool.specs.Blocks.{device_at, no_device, block_at}
 use Rattle.codfs_tool.specs.Begun.{IsFresh, AreFresh}
 use Rattle.codfs_tool.specs.Standing.{Standing}
+use Rattle.codfs_tool.specs.Counts.{Counts}
+use Rattle.codfs_tool.proofs.Counting.{counts_begin}
 use Rattle.codfs_tool.proofs.Changes.{equal_or_not}
 
 pub fresh_none : (block : ℕ) (never : ℕ → Bool) → AreFresh block never 0 [] []
@@ -90,6 +92,10 @@ standing_begins told never g nodes ds unmarked a no_parity enough few small tell
       unfailed = λ j lt d. (a.each j (omega arith)).faults;
       holds = λ l t j lt.
           told_zeros (device_at ds j).content g.block (telling j lt ∙ t) (a.each j (omega arith)).zeros ∙ ap Some (sym (zero_block g.block g.k j (omega arith)));
-      reads = λ l j lt. (a.each j (omega arith)).reads;
-      writes = λ l j lt. (a.each j (omega arith)).writes;
     }
+
+-- nothing was read or written
+pub fresh_counts : (block : ℕ) (never : ℕ → Bool) (n : ℕ) (ds : List Device) (unmarked : List Bool) → AreFresh block never n ds unmarked → Counts false block ds []
+fresh_counts block never n ds unmarked a =
+    let size = a.regions in
+    counts_begin block ds (λ j lt. let f = a.each j (omega arith) in (f.reads, f.writes))

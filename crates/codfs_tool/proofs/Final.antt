@@ -1,25 +1,27 @@
 -- What a replay has printed.
-use Rattle.std.proofs.Common.{◌≡◌, inl, inr, ℕ, zero, suc, ◌+◌, ◌<◌, ◌≤◌, Bool, true, false, cond, Option, Some, None, List, [], ◌∷◌, ◌++◌, length, map, get_or, refl, sym, ap, ◌∙◌, subst, arith, true≢false}
-use Rattle.std.specs.Prelude.{is_some, not, nat_lt, ◌||◌}
+use Rattle.std.proofs.Common.{◌≡◌, inl, inr, ℕ, zero, suc, ◌+◌, ◌<◌, ◌≤◌, Bool, true, false, None, List, [], ◌∷◌, ◌++◌, length, map, get_or, refl, sym, ap, ◌∙◌, subst, arith}
+use Rattle.std.specs.Prelude.{is_some, not}
 use Rattle.std.specs.List.{flat_map, range_with_len, AllPairs}
 use Rattle.std.proofs.Math.Nat.{mul-le-mul_right}
-use Rattle.std.proofs.lemmas.Bool.Decides.{nat_tests}
 use Rattle.std.proofs.lemmas.List.FromFn.{length-range_with_len, get_or-range_with_len}
-use Rattle.cod_types.specs.Limits.{Shape, first_bad}
+use Rattle.cod_types.specs.Limits.{Shape}
 use Rattle.cod_region.specs.Device.{Device}
 use Rattle.cod_chronicle.specs.declared.entry.Entry.{Entry}
-use Rattle.cod_chronicle.specs.Said.{site_of, site_as, stamp_of, RisesFrom, StampsRise, numbers_by, IsChronicle, is_down, is_over, node_of}
+use Rattle.cod_chronicle.specs.Said.{site_of, stamp_of, RisesFrom, StampsRise, numbers_by, IsChronicle, is_down, node_of}
 use Rattle.cod_chronicle.specs.Legal.{node_id}
 use Rattle.cod_chronicle.specs.Order.{Placed, place}
 use Rattle.cod_scenario.specs.Plan.{Plan, Ask}
 use Rattle.cod_scenario.specs.Owed.{owed}
-use Rattle.cod_scenario.specs.Form.{IsBuilt}
+use Rattle.codfs_tool.specs.Built.{IsFit}
+use Rattle.codfs_tool.proofs.Fits.{IsOne}
 use Rattle.cod_text.specs.Printed.{line_text, layout_text, chronicle_text}
 use Rattle.codfs_tool.specs.Blocks.{device_at}
 use Rattle.codfs_tool.specs.Begun.{AreFresh}
 use Rattle.codfs_tool.specs.Standing.{CountsFrom, Standing}
+use Rattle.codfs_tool.specs.Counts.{Counts, Tally, reads_of, writes_of}
 use Rattle.codfs_tool.specs.Lines.{device_text, devices_text}
-use Rattle.codfs_tool.specs.Replays.{column_line, column_text, columns_text, nodes_text, Ran}
+use Rattle.codfs_tool.specs.Replays.{column_line, column_text, columns_text, Ran}
+use Rattle.codfs_tool.specs.Planned.{nodes_text}
 use Rattle.codfs_tool.proofs.Beginning.{standing_begins}
 use Rattle.codfs_tool.proofs.Changes.{equal_or_not}
 use Rattle.codfs_tool.proofs.Histories.{one_order, is_history, no_numbers}
@@ -27,22 +29,12 @@ use Rattle.codfs_tool.proofs.Steps.{on_its_node}
 
 -- ---- before the first call
 
-none_first : {X : Type 0} (o : Bool) (x : X) (rest : Option X) → cond o (Some x) rest ≡ None → o ≡ false
-none_first true x rest e = cc
-none_first false x rest e = refl
-
--- a geometry within its limits has 1 to 16 columns
-pub some_columns : (g : Shape) → first_bad g ≡ None → (1 ≤ g.n) × (g.n ≤ 16)
-some_columns g e = by (none_first (nat_lt g.n 1 || nat_lt 16 g.n) _ _ e) where
-  by : (nat_lt g.n 1 || nat_lt 16 g.n) ≡ false → (1 ≤ g.n) × (g.n ≤ 16)
-  by f = (grind (arith, nat_tests), grind (arith, nat_tests))
-
-pub begins : (told : Bool) (never : ℕ → Bool) (x : Plan) (ds : List Device) (unmarked : List Bool) → IsBuilt x → AreFresh x.shape.block never x.shape.k ds unmarked
+pub begins : (told : Bool) (never : ℕ → Bool) (x : Plan) (ds : List Device) (unmarked : List Bool) → IsFit x → IsOne x → AreFresh x.shape.block never x.shape.k ds unmarked
     → ((j : ℕ) → j < length ds → is_some (device_at ds j).content ≡ told) → Standing told (map never (range_with_len 0 x.shape.n)) x.shape x.nodes ds unmarked false [] []
-begins told never x ds unmarked b a telling =
-    let some = some_columns x.shape b.shape in
-    let low = mul-le-mul_right {m = x.shape.k} {n = 16} x.shape.block (let p = b.no_parity in omega arith) in
-    standing_begins told never x.shape x.nodes ds unmarked a b.no_parity b.columns some.1 (omega (arith, low, b.block)) telling
+begins told never x ds unmarked fit one a telling =
+    let w = fit.within in
+    let low = mul-le-mul_right {m = x.shape.k} {n = 16} x.shape.block (omega (arith, w.data_among_columns, w.most_columns)) in
+    standing_begins told never x.shape x.nodes ds unmarked a one.no_parity fit.columns w.most_columns (omega (arith, low, w.most_bytes)) telling
 
 -- ---- the chronicle
 
@@ -91,57 +83,60 @@ column_is x h j node up up' len d n u l =
     ∙ ap (λ (o : Bool). layout_text x (record { seg = record { 0 = 0 }; col = j; node = node_id node; up = o; len = d.size; parity = None; reads = d.reads; writes = d.writes })) u
     ∙ ap (λ (k : ℕ). layout_text x (record { seg = record { 0 = 0 }; col = j; node = node_id node; up = up'; len = k; parity = None; reads = d.reads; writes = d.writes })) l
 
-column_text_is : (x : Plan) (h : List Entry) (reads writes : ℕ → ℕ) (j : ℕ) → layout_text x (column_line x h reads writes j) ≡ column_text x h reads writes j
+column_text_is : (x : Plan) (h : List Entry) (early : Bool) (j : ℕ) → layout_text x (column_line x h early j) ≡ column_text x h early j
 unfolding column_text
-column_text_is x h reads writes j = refl
+column_text_is x h early j = refl
+
+-- the counts of a region's line
+counts_are : (x : Plan) (j node : ℕ) (up : Bool) (len : ℕ) (d : Device) (reads writes : ℕ) → d.reads ≡ reads → d.writes ≡ writes
+    → layout_text x (record { seg = record { 0 = 0 }; col = j; node = node_id node; up = up; len = len; parity = None; reads = d.reads; writes = d.writes })
+    ≡ layout_text x (record { seg = record { 0 = 0 }; col = j; node = node_id node; up = up; len = len; parity = None; reads = reads; writes = writes })
+counts_are x j node up len d reads writes r w =
+    ap (λ (k : ℕ). layout_text x (record { seg = record { 0 = 0 }; col = j; node = node_id node; up = up; len = len; parity = None; reads = k; writes = d.writes })) r
+    ∙ ap (λ (k : ℕ). layout_text x (record { seg = record { 0 = 0 }; col = j; node = node_id node; up = up; len = len; parity = None; reads = reads; writes = k })) w
 
 -- the text that was printed is that of the history
 text_is : (told : Bool) (sure : List Bool) (x : Plan) (ds : List Device) (unmarked : List Bool) (lost : Bool) (h : List Entry) (asked : List Ask) (n : ℕ)
-    → Standing told sure x.shape x.nodes ds unmarked lost h asked → n ≡ x.shape.n
+    → Standing told sure x.shape x.nodes ds unmarked lost h asked → (k : Counts lost x.shape.block ds h) → n ≡ x.shape.n
     → (flat_map (λ e. line_text x (place 0 e)) h ++ (devices_text x ds unmarked n ++ nodes_text x))
-    ≡ (chronicle_text x (h ∷ []) ++ (columns_text x h (λ j. (device_at ds j).reads) (λ j. (device_at ds j).writes) ++ nodes_text x))
-text_is told sure x ds unmarked lost h asked n s count =
-    let reads : ℕ → ℕ = λ j. (device_at ds j).reads in
-    let writes : ℕ → ℕ = λ j. (device_at ds j).writes in
+    ≡ (chronicle_text x (h ∷ []) ++ (columns_text x h k.early ++ nodes_text x))
+text_is told sure x ds unmarked lost h asked n s k count =
     let first : flat_map (λ e. line_text x (place 0 e)) h ≡ chronicle_text x (h ∷ []) = sym (ap (flat_map (λ p. line_text x p)) (one_order h s.stamps) ∙ placed_text (λ p. line_text x p) 0 h) in
-    let each : (j : ℕ) → 0 ≤ j → j < 0 + x.shape.n → device_text x j (get_or unmarked j false) (device_at ds j) ≡ column_text x h reads writes j = λ j low high.
+    let each : (j : ℕ) → 0 ≤ j → j < 0 + x.shape.n → device_text x j (get_or unmarked j false) (device_at ds j) ≡ column_text x h k.early j = λ j low high.
     let size = s.count in
     let enough = s.enough in
-    column_is x h j (node_of (site_of x.shape x.nodes 0) h j) (get_or unmarked j false) (not (is_down h j)) x.shape.block (device_at ds j)
+    let node = node_of (site_of x.shape x.nodes 0) h j in
+    column_is x h j node (get_or unmarked j false) (not (is_down h j)) x.shape.block (device_at ds j)
     (on_its_node true sure x.shape x.nodes j h s.entries (omega arith)) (s.unmarked_live j (omega arith)) (s.sized j (omega arith))
-    ∙ column_text_is x h reads writes j in
-    let second : devices_text x ds unmarked n ≡ columns_text x h reads writes = ap (devices_text x ds unmarked) count ∙ texts_same (λ j. device_text x j (get_or unmarked j false) (device_at ds j)) (column_text x h reads writes) 0 x.shape.n each in
+    ∙ counts_are x j node (not (is_down h j)) x.shape.block (device_at ds j) (reads_of k.early x.shape.block j h) (writes_of k.early x.shape.block j h)
+    (ap (λ (t : Tally). t.calls) (sym (k.counted.reads j (omega arith)))) (ap (λ (t : Tally). t.calls) (sym (k.counted.writes j (omega arith))))
+    ∙ column_text_is x h k.early j in
+    let second : devices_text x ds unmarked n ≡ columns_text x h k.early = ap (devices_text x ds unmarked) count ∙ texts_same (λ j. device_text x j (get_or unmarked j false) (device_at ds j)) (column_text x h k.early) 0 x.shape.n each in
     ap (λ (l : List ℕ). l ++ (devices_text x ds unmarked n ++ nodes_text x)) first ∙ ap (λ (l : List ℕ). chronicle_text x (h ∷ []) ++ (l ++ nodes_text x)) second
-
-lost_or_not : (lost o : Bool) → (lost ≡ true → o ≡ true) → o ≡ false → lost ≡ false
-lost_or_not true o f e = absurd (true≢false (sym (f refl) ∙ e))
-lost_or_not false o f e = refl
 
 -- A run that has made all calls has printed its history.
 pub ran : (Tells : Type 0) (Took : List ℕ → Type 0) (told : Bool) (never : ℕ → Bool) (x : Plan) (ds : List Device) (unmarked : List Bool) (lost : Bool) (h : List Entry) (asked : List Ask) (n : ℕ)
-    → IsBuilt x → (Tells → told ≡ true) → Standing told (map never (range_with_len 0 x.shape.n)) x.shape x.nodes ds unmarked lost h asked → asked ≡ owed x 0 → n ≡ x.shape.n
+    → IsOne x → (Tells → told ≡ true) → Standing told (map never (range_with_len 0 x.shape.n)) x.shape x.nodes ds unmarked lost h asked → Counts lost x.shape.block ds h → asked ≡ owed x 0 → n ≡ x.shape.n
     → Took (flat_map (λ e. line_text x (place 0 e)) h ++ (devices_text x ds unmarked n ++ nodes_text x)) → Ran Tells never x Took
-ran Tells Took told never x ds unmarked lost h asked n b telling s all count took = record {
+ran Tells Took told never x ds unmarked lost h asked n b telling s k all count took = record {
   told = told;
   telling = telling;
   prints = record {
     chronicle = h;
     history = is_history told never x ds unmarked lost h asked b s all (chronicle_of told _ x.shape x.nodes ds unmarked lost h asked s);
     stamps = s.stamps;
-    reads = λ j. (device_at ds j).reads;
-    writes = λ j. (device_at ds j).writes;
-    counts = λ few j lt. let fine = lost_or_not lost (is_over (site_as told x.shape x.nodes 0) h) s.over few in (s.reads fine j lt, s.writes fine j lt);
-    printed = subst Took (text_is told _ x ds unmarked lost h asked n s count) took;
+    early = k.early;
+    printed = subst Took (text_is told _ x ds unmarked lost h asked n s k count) took;
   };
 }
 
 -- the same, where the numbers are those of the scenario
-pub started : (told : Bool) (never : ℕ → Bool) (x : Plan) (g : Shape) (nodes : ℕ) (ds : List Device) (unmarked : List Bool) (lost : Bool) (h : List Entry) → IsBuilt x → g ≡ x.shape → nodes ≡ x.nodes → lost ≡ false → h ≡ []
+pub started : (told : Bool) (never : ℕ → Bool) (x : Plan) (g : Shape) (nodes : ℕ) (ds : List Device) (unmarked : List Bool) (lost : Bool) (h : List Entry) → IsFit x → IsOne x → g ≡ x.shape → nodes ≡ x.nodes → lost ≡ false → h ≡ []
     → AreFresh g.block never g.k ds unmarked → ((j : ℕ) → j < length ds → is_some (device_at ds j).content ≡ told) → Standing told (map never (range_with_len 0 x.shape.n)) g nodes ds unmarked lost h []
-started told never x g nodes ds unmarked lost h b shape count fine empty a telling =
+started told never x g nodes ds unmarked lost h fit one shape count fine empty a telling =
     let sure = map never (range_with_len 0 x.shape.n) in
     let fresh = subst (λ (s : Shape). AreFresh s.block never s.k ds unmarked) shape a in
-    let s = begins told never x ds unmarked b fresh telling in
+    let s = begins told never x ds unmarked fit one fresh telling in
     subst (λ (k : List Entry). Standing told sure g nodes ds unmarked lost k []) (sym empty)
     (subst (λ (o : Bool). Standing told sure g nodes ds unmarked o [] []) (sym fine)
     (subst (λ (n : ℕ). Standing told sure g n ds unmarked false [] []) (sym count)
@@ -151,12 +146,3 @@ started told never x g nodes ds unmarked lost h b shape count fine empty a telli
 pub first_tells : {X : Type 0} (f : X → Device) (xs : List X) → 0 < length xs → ((x : X) → is_some (f x).content ≡ true) → is_some (device_at (map f xs) 0).content ≡ true
 first_tells f [] some tells = absurd (omega arith)
 first_tells f (x ∷ xs) some tells = tells x
-
-pub ran_there : (Tells : Type 0) (Took : List ℕ → Type 0) (told : Bool) (never : ℕ → Bool) (x : Plan) (g : Shape) (nodes : ℕ) (ds : List Device) (unmarked : List Bool) (lost : Bool) (h : List Entry) (asked : List Ask) (n : ℕ)
-    → IsBuilt x → (Tells → told ≡ true) → g ≡ x.shape → nodes ≡ x.nodes → Standing told (map never (range_with_len 0 x.shape.n)) g nodes ds unmarked lost h asked → asked ≡ owed x 0 → n ≡ length ds
-    → Took (flat_map (λ e. line_text x (place 0 e)) h ++ (devices_text x ds unmarked n ++ nodes_text x)) → Ran Tells never x Took
-ran_there Tells Took told never x g nodes ds unmarked lost h asked n b telling shape count s all columns took =
-    let sure = map never (range_with_len 0 x.shape.n) in
-    let first = subst (λ (k : Shape). Standing told sure k nodes ds unmarked lost h asked) shape s in
-    let second = subst (λ (m : ℕ). Standing told sure x.shape m ds unmarked lost h asked) count first in
-    ran Tells Took told never x ds unmarked lost h asked n b telling second all (columns ∙ second.count) took

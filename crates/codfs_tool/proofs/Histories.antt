@@ -2,7 +2,7 @@
 use Rattle.std.proofs.Common.{◌≡◌, ◌≢◌, ◌⊎◌, inl, inr, ℕ, zero, suc, ◌+◌, ◌-◌, ◌<◌, ◌≤◌, Bool, true, false, cond, Some, None, List, [], ◌∷◌, ◌++◌, length, map, get_or, refl, sym, ap, ◌∙◌, subst, arith, true≢false}
 use Rattle.std.specs.Prelude.{slice_get, slice_index_or, not, IsTrue, ◌==◌}
 use Rattle.cod_region.specs.Device.{Device}
-use Rattle.std.specs.List.{All, AllByRecursion, filter_map, range_with_len, cons_option}
+use Rattle.std.specs.List.{All, AllByRecursion, list_all, filter_map, range_with_len, cons_option}
 use Rattle.std.proofs.lemmas.Bool.{cases_lt, ne_eqb}
 use Rattle.std.proofs.lemmas.List.{append-nil, get_or-map, get_or_past, length-map}
 use Rattle.std.proofs.lemmas.List.Elements.{All-nil, All-cons}
@@ -23,7 +23,9 @@ use Rattle.cod_scenario.specs.declared.line.What.{What}
 use Rattle.cod_scenario.specs.declared.line.What.TheVariants.{Segment, Fail}
 use Rattle.cod_scenario.specs.Plan.{Plan, Client, Ask, asks, lines_of, nobody}
 use Rattle.cod_scenario.specs.Owed.{asked_in, ask_by, asked_by, owed, IsLicensed, IsGiven, failed_with, failed_ahead, IsOut, SeesFailsAfter, StandsAfter, IsHistoryAs}
-use Rattle.cod_scenario.specs.Form.{IsBuilt, IsBuiltWhat, AreBuiltFrom}
+use Rattle.codfs_tool.specs.Built.{is_built_what, is_built_line}
+use Rattle.codfs_tool.proofs.Fits.{IsOne}
+use Rattle.codfs_tool.proofs.Slips.{both}
 use Rattle.codfs_tool.specs.Standing.{CountsFrom, HasNoReasons, IsEntry, Standing}
 use Rattle.codfs_tool.proofs.Changes.{equal_or_not}
 
@@ -131,17 +133,19 @@ licensed x never n (Down stamp col node (Killed line)) a = absurd a
 licensed x never n (Up stamp col node) a = tt
 licensed x never n (Move stamp col node) a = tt
 
--- no line of the form fails a node
-no_fail : (w : What) (rest : ℕ → List ℕ) (number : ℕ) → IsBuiltWhat w → ((k : ℕ) → rest k ≡ []) → failed_with w rest number ≡ []
+-- no line that is built fails a node
+no_fail : (w : What) (rest : ℕ → List ℕ) (number : ℕ) → is_built_what w ≡ true → ((k : ℕ) → rest k ≡ []) → failed_with w rest number ≡ []
 no_fail (Segment seg call) rest number b none = by (number == 0) where
   by : (o : Bool) → cond o [] (rest (number - 1)) ≡ []
   by true = refl
   by false = none (number - 1)
-no_fail (Fail node) rest number b none = absurd b
+no_fail (Fail node) rest number b none = absurd (true≢false (sym b))
 
-no_fails : (n : ℕ) (ls : List Line) (number : ℕ) → AreBuiltFrom n ls → failed_ahead ls number ≡ []
-no_fails n [] number b = refl
-no_fails n (l ∷ ls) number b = no_fail (l.what) (failed_ahead ls) number b.1 (λ k. no_fails (n + 1) ls k b.2)
+no_fails : (ls : List Line) (number : ℕ) → list_all is_built_line ls ≡ true → failed_ahead ls number ≡ []
+no_fails [] number b = refl
+no_fails (l ∷ ls) number b =
+    let p = both (is_built_line l) (list_all is_built_line ls) b in
+    no_fail (l.what) (failed_ahead ls) number p.0 (λ k. no_fails ls k p.1)
 
 -- nobody failed a node
 sees_fails : (x : Plan) (site : Site) (sure : List Bool) (before h : List Entry) → ((number : ℕ) → failed_ahead (lines_of x 0) number ≡ []) → AllByRecursion (IsEntry sure) h → SeesFailsAfter x site before h
@@ -170,25 +174,23 @@ only_first told g nodes zero h k is c l = (let e : h ≡ k = cc in (subst IsChro
 only_first told g nodes (suc s) h k is c l = absurd (nothing_else s h k is)
 
 -- a caller that is no client owes nothing
-owes_nothing : (x : Plan) (c : Client) (who : ℕ) → x.clients ≡ c ∷ [] → who ≢ 0 → owed x who ≡ []
-owes_nothing x c zero is other = absurd (other refl)
-owes_nothing x c (suc who) is other = ap (λ (cs : List Client). asks (slice_index_or cs (suc who) nobody).lines) is
+nothing_of : (cs : List Client) (who : ℕ) → length cs ≡ 1 → who ≢ 0 → asks (slice_index_or cs who nobody).lines ≡ []
+nothing_of cs zero one other = absurd (other refl)
+nothing_of [] (suc who) one other = absurd (omega arith)
+nothing_of (c ∷ []) (suc who) one other = refl
+nothing_of (c ∷ d ∷ cs) (suc who) one other = absurd (omega arith)
 
 -- The chronicle of a run that has made all calls of the one client is a history of its scenario.
 pub is_history : (told : Bool) (never : ℕ → Bool) (x : Plan) (ds : List Device) (unmarked : List Bool) (lost : Bool) (h : List Entry) (asked : List Ask)
-    → IsBuilt x → Standing told (map never (range_with_len 0 x.shape.n)) x.shape x.nodes ds unmarked lost h asked → asked ≡ owed x 0 → IsChronicle h
+    → IsOne x → Standing told (map never (range_with_len 0 x.shape.n)) x.shape x.nodes ds unmarked lost h asked → asked ≡ owed x 0 → IsChronicle h
     → IsHistoryAs told x (λ node. not (never node)) (owed x) (h ∷ [])
 is_history told never x ds unmarked lost h asked b s all chronicle =
     let sure = map never (range_with_len 0 x.shape.n) in
-    let name = b.segment.0 in
-    let c = b.client.0 in
     let one : order (h ∷ []) ≡ map (λ e. place 0 e) h = one_order h s.stamps in
     let is_placed : placed (h ∷ []) ≡ map (λ e. place 0 e) h = append-nil (map (λ e. place 0 e) h) in
-    let lines : lines_of x 0 ≡ c.lines = ap (λ (cs : List Client). (slice_index_or cs 0 nobody).lines) b.client.1 in
-    let no_fail_lines : (number : ℕ) → failed_ahead (lines_of x 0) number ≡ [] = λ number. ap (λ (ls : List Line). failed_ahead ls number) lines ∙ no_fails 11 c.lines number b.client.3 in
     let numbers : (who : ℕ) → numbers_of who (order (h ∷ [])) ≡ numbers_by who h = λ who. ap (numbers_of who) one ∙ placed_numbers who 0 h in
     record {
-      count = ap length (sym b.segment.1);
+      count = sym b.segment;
       whole = record {
         each = λ i k is. only_first told x.shape x.nodes i h k is chronicle s.legal;
         numbers = λ who. elim (equal_or_not who 0) [
@@ -204,7 +206,7 @@ is_history told never x ds unmarked lost h asked b s all chronicle =
       licensed = each_one (λ p. IsLicensed x (λ node. not (never node)) p.entry) h (weaker (IsEntry sure) (IsLicensed x (λ node. not (never node))) (licensed x never x.shape.n) h s.entries);
       holds = λ who. elim (equal_or_not who 0) [
         | inl same ↦ ap (asked_by who) one ∙ placed_asks who 0 h ∙ ap (λ (w : ℕ). filter_map (asked_in 0 w) h) same ∙ s.asks ∙ all ∙ ap (owed x) (sym same)
-        | inr other ↦ ap (asked_by who) one ∙ placed_asks who 0 h ∙ no_asks sure who 0 h other s.entries ∙ sym (owes_nothing x c who b.client.1 other)
+        | inr other ↦ ap (asked_by who) one ∙ placed_asks who 0 h ∙ no_asks sure who 0 h other s.entries ∙ sym (nothing_of x.clients who b.client other)
       ];
       obeys = record {
         seen = λ i k is. seen_there i k is;
@@ -214,9 +216,7 @@ is_history told never x ds unmarked lost h asked b s all chronicle =
       seen_there : (i : ℕ) (k : List Entry) → slice_get (h ∷ []) i ≡ Some k → SeesFailsAfter x (site_of x.shape x.nodes i) [] k
       seen_there zero k is =
           let sure = map never (range_with_len 0 x.shape.n) in
-          let c = b.client.0 in
-          let lines : lines_of x 0 ≡ c.lines = ap (λ (cs : List Client). (slice_index_or cs 0 nobody).lines) b.client.1 in
           let e : h ≡ k = cc in
           subst (SeesFailsAfter x (site_of x.shape x.nodes 0) []) e
-          (sees_fails x (site_of x.shape x.nodes 0) sure [] h (λ number. ap (λ (ls : List Line). failed_ahead ls number) lines ∙ no_fails 11 c.lines number b.client.3) s.entries)
+          (sees_fails x (site_of x.shape x.nodes 0) sure [] h (λ number. no_fails (lines_of x 0) number b.lines) s.entries)
       seen_there (suc i) k is = absurd (nothing_else i h k is)

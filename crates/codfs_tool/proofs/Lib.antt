@@ -1,10 +1,17 @@
 pub mod Told
 pub mod Parts
 pub mod Changes
+pub mod Counting
 pub mod Cut
 pub mod Steps
 pub mod Beginning
+pub mod Fits
 pub mod Histories
 pub mod Texts
+pub mod Rows
+pub mod Sums
+pub mod Plans
+pub mod Words
 pub mod Slips
 pub mod Final
+pub mod Completeness

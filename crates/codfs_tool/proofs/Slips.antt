@@ -1,6 +1,8 @@
 -- Slips for the lines of a client.
-use Rattle.std.proofs.Common.{◌≡◌, ℕ, zero, suc, ◌+◌, ◌<◌, List, [], ◌∷◌, ◌++◌, length, take, get_or, refl, sym, ap, ◌∙◌, arith}
-use Rattle.std.specs.List.{cons_option}
+use Rattle.std.proofs.Common.{◌≡◌, Bool, true, false, ℕ, zero, suc, ◌+◌, ◌<◌, List, [], ◌∷◌, ◌++◌, length, take, get_or, refl, sym, ap, ◌∙◌, arith}
+use Rattle.std.specs.Prelude.{◌==◌, ◌&&◌}
+use Rattle.std.specs.List.{cons_option, list_all}
+use Rattle.std.proofs.lemmas.Bool.Decides.{nat_tests}
 use Rattle.std.proofs.lemmas.List.{take_more, map-append}
 use Rattle.std.proofs.lemmas.List.Elements.{filter_map-append}
 use Rattle.cod_types.specs.Limits.{Shape}
@@ -10,7 +12,7 @@ use Rattle.cod_scenario.specs.declared.line.Line.{Line}
 use Rattle.cod_scenario.specs.declared.line.What.{What}
 use Rattle.cod_scenario.specs.declared.line.What.TheVariants.{Segment}
 use Rattle.cod_scenario.specs.Plan.{Ask, ask_of, asks}
-use Rattle.cod_scenario.specs.Form.{AreBuiltFrom, IsBuiltWhat}
+use Rattle.codfs_tool.specs.Built.{is_built_call, is_built_what, is_built_line}
 use Rattle.codfs_tool.specs.declared.slip.Slip.{Slip}
 use Rattle.codfs_tool.specs.Ready.{IsReady, AreReady, asks_of}
 use Rattle.codfs_tool.specs.Standing.{ask}
@@ -19,11 +21,23 @@ pub none_left : {X : Type 0} (xs : List X) → length xs ≡ 0 → xs ≡ []
 none_left [] e = refl
 none_left (x ∷ xs) e = absurd (omega arith)
 
--- a line of the form
-pub built_at : (n : ℕ) (ls : List Line) (i : ℕ) (d : Line) → AreBuiltFrom n ls → i < length ls → IsBuiltWhat (get_or ls i d).what
-built_at n [] i d b lt = absurd (omega arith)
-built_at n (l ∷ ls) zero d b lt = b.1
-built_at n (l ∷ ls) (suc i) d b lt = built_at (n + 1) ls i d b.2 (omega arith)
+-- two tests that pass
+pub both : (o p : Bool) → (o && p) ≡ true → (o ≡ true) × (p ≡ true)
+both true p e = (refl, e)
+both false p e = cc
+
+-- a line that is built
+pub built_at : (ls : List Line) (i : ℕ) (d : Line) → list_all is_built_line ls ≡ true → i < length ls → is_built_what (get_or ls i d).what ≡ true
+built_at [] i d b lt = absurd (omega arith)
+built_at (l ∷ ls) zero d b lt = (both (is_built_line l) (list_all is_built_line ls) b).0
+built_at (l ∷ ls) (suc i) d b lt = built_at ls i d (both (is_built_line l) (list_all is_built_line ls) b).1 (omega arith)
+
+pub equal_if : (a b : ℕ) → (a == b) ≡ true → a ≡ b
+equal_if a b e = grind (arith, nat_tests)
+
+-- a call that is built
+pub built_parts : (seg : SegId) (call : Call) → is_built_what (Segment seg call) ≡ true → (seg.0 ≡ 0) × (is_built_call call ≡ true)
+built_parts seg call b = let p = both (seg.0 == 0) (is_built_call call) b in (equal_if seg.0 0 p.0, p.1)
 
 pub ready_more : (g : Shape) (ss : List Slip) (s : Slip) → AreReady g ss → IsReady g s → AreReady g (ss ++ s ∷ [])
 ready_more g [] s all one = (one, tt)

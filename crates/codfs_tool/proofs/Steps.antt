@@ -1,6 +1,6 @@
 -- How a run goes on, entry by entry.
 use Rattle.std.proofs.Common.{◌≡◌, ◌≢◌, ◌⊎◌, inl, inr, ℕ, zero, suc, ◌+◌, ◌-◌, ◌*◌, ◌%◌, ◌<◌, ◌≤◌, Bool, true, false, cond, Some, None, List, [], ◌∷◌, ◌++◌, length, get_or, set, refl, sym, ap, ◌∙◌, subst, arith}
-use Rattle.std.specs.Prelude.{not, ◌&&◌}
+use Rattle.std.specs.Prelude.{not}
 use Rattle.std.specs.List.{fold, filter, range_with_len, AllByRecursion}
 use Rattle.std.specs.Option.{option_map}
 use Rattle.std.proofs.lemmas.List.{append-nil, length-append, get_or-set_other, length-set}
@@ -12,7 +12,6 @@ use Rattle.std.proofs.lemmas.List.{get_or_append_left}
 use Rattle.std.proofs.lemmas.List.FromFn.{length-range_with_len, get_or-range_with_len}
 use Rattle.std.proofs.Common.{true≢false, mod-eq_of_lt}
 use Rattle.std.proofs.lemmas.List.Elements.{filter_map-append}
-use Rattle.std.proofs.lemmas.List.Sums.{fold-append}
 use Rattle.cod_types.specs.Limits.{Shape, segment_length}
 use Rattle.cod_types.specs.Plain.{refusal, plain_reply, plain_next}
 use Rattle.cod_types.specs.Overwritten.{replaced}
@@ -32,10 +31,10 @@ use Rattle.cod_chronicle.proofs.Bytes_kept.{keeps_length}
 use Rattle.cod_chronicle.proofs.Orders.{Each-append}
 use Rattle.cod_scenario.specs.Plan.{Ask}
 use Rattle.cod_scenario.specs.Owed.{asked_in}
-use Rattle.cod_scenario.specs.Form.{is_built_call}
-use Rattle.codfs_tool.specs.Blocks.{device_at, block_at, HoldBlocks, AreChanged, Breaks, counted}
-use Rattle.codfs_tool.specs.Serving.{served, reads_column, writes_column, IsInside}
-use Rattle.codfs_tool.specs.Standing.{CountsFrom, count_next, reads_of, writes_of, asked_of, HasNoReasons, IsEntry, Standing, entered, ask}
+use Rattle.codfs_tool.specs.Built.{is_built_call}
+use Rattle.codfs_tool.specs.Blocks.{device_at, block_at, HoldBlocks, AreChanged, Breaks}
+use Rattle.codfs_tool.specs.Serving.{served, IsInside}
+use Rattle.codfs_tool.specs.Standing.{CountsFrom, asked_of, HasNoReasons, IsEntry, Standing, entered, ask}
 use Rattle.codfs_tool.proofs.Changes.{Keeps, read_keeps, write_keeps, same_twice, changed_same, equal_or_not}
 use Rattle.codfs_tool.proofs.Cut.{block_replaced, overwritten_all}
 
@@ -72,9 +71,6 @@ numbers_more asked x =
     let z : 0 + length asked ≡ length asked = omega arith in
     let l : suc (length asked) ≡ length (asked ++ x ∷ []) = omega (arith, length-append asked (x ∷ [])) in
     ap (λ (k : ℕ). range_with_len 0 (length asked) ++ k ∷ []) (sym z) ∙ sym (range_last 0 (length asked)) ∙ ap (range_with_len 0) l
-
-count_push : (calls : Asked → ℕ → Bool) (j : ℕ) (h : List Entry) (e : Entry) → fold (count_next calls j) 0 (h ++ e ∷ []) ≡ count_next calls j (fold (count_next calls j) 0 h) e
-count_push calls j h e = fold-append (count_next calls j) 0 h (e ∷ [])
 
 -- a refusal has no reasons
 no_reasons_refused : (reply : Reply) → is_refused reply ≡ true → HasNoReasons reply
@@ -122,8 +118,6 @@ standing_refused told sure g nodes ds unmarked lost h asked what reply s answer 
           let b = bytes_of site h in
           let bytes : bytes_of site (h ++ e ∷ []) ≡ b = bytes_of-push site h e ∙ ap (λ (o : Bool). cond o b (plain_next b what)) refused in
           subst (HoldBlocks g.block ds) (sym bytes) (s.holds l t);
-      reads = λ l j lt. s.reads l j lt ∙ sym (count_push (reads_column g.block) j h e ∙ ap (λ (o : Bool). counted (not o && reads_column g.block what j) (reads_of g.block j h)) refused);
-      writes = λ l j lt. s.writes l j lt ∙ sym (count_push (writes_column g.block) j h e ∙ ap (λ (o : Bool). counted (not o && writes_column g.block what j) (writes_of g.block j h)) refused);
     }
 
 -- what a call that is made does to a region
@@ -140,28 +134,6 @@ served_keeps block call.Tick built = cc
 served_keeps block call.Rebuild built = cc
 served_keeps block call.Upgrade built = cc
 served_keeps block (call.Drain node) built = cc
-
-served_reads : (block : ℕ) (what : Asked) (j : ℕ) (d : Device) → (served block what j d).reads ≡ counted (reads_column block what j) d.reads
-served_reads block (call.Read off len) j d = refl
-served_reads block (call.Write off bytes) j d = refl
-served_reads block (call.Put bytes) j d = refl
-served_reads block (call.Swap off old new) j d = refl
-served_reads block call.Merge j d = refl
-served_reads block call.Tick j d = refl
-served_reads block call.Rebuild j d = refl
-served_reads block call.Upgrade j d = refl
-served_reads block (call.Drain node) j d = refl
-
-served_writes : (block : ℕ) (what : Asked) (j : ℕ) (d : Device) → (served block what j d).writes ≡ counted (writes_column block what j) d.writes
-served_writes block (call.Read off len) j d = refl
-served_writes block (call.Write off bytes) j d = refl
-served_writes block (call.Put bytes) j d = refl
-served_writes block (call.Swap off old new) j d = refl
-served_writes block call.Merge j d = refl
-served_writes block call.Tick j d = refl
-served_writes block call.Rebuild j d = refl
-served_writes block call.Upgrade j d = refl
-served_writes block (call.Drain node) j d = refl
 
 -- a block of bytes, after a call that its numbers don't refuse
 served_block : (block : ℕ) (what : Asked) (j : ℕ) (d : Device) (b : List ℕ) → is_built_call what ≡ true → IsInside (length b) what → d.content ≡ Some (block_at block b j)
@@ -217,16 +189,6 @@ standing_served told sure g nodes ds ds' unmarked lost h asked what reply s well
           let within : IsInside (length b) what = subst (λ (n : ℕ). IsInside n what) (sym total) inside in
           ap (λ (d : Device). d.content) (a.changed j (omega arith)) ∙ served_block g.block what j (device_at ds j) b built within (s.holds l t j (omega arith))
           ∙ ap (λ (l : List ℕ). Some (block_at g.block l j)) (sym bytes);
-      reads = λ l j lt.
-          let n = s.count in
-          ap (λ (d : Device). d.reads) (a.changed j (omega arith)) ∙ served_reads g.block what j (device_at ds j)
-          ∙ ap (counted (reads_column g.block what j)) (s.reads l j lt)
-          ∙ sym (count_push (reads_column g.block) j h e ∙ ap (λ (o : Bool). counted (not o && reads_column g.block what j) (reads_of g.block j h)) kept);
-      writes = λ l j lt.
-          let n = s.count in
-          ap (λ (d : Device). d.writes) (a.changed j (omega arith)) ∙ served_writes g.block what j (device_at ds j)
-          ∙ ap (counted (writes_column g.block what j)) (s.writes l j lt)
-          ∙ sym (count_push (writes_column g.block) j h e ∙ ap (λ (o : Bool). counted (not o && writes_column g.block what j) (writes_of g.block j h)) kept);
     }
 
 -- no column has moved
@@ -297,8 +259,6 @@ standing_broken told sure g nodes col ds ds' unmarked h asked s b reliable =
       ];
       unfailed = λ j lt d. let other = elsewhere j d in b.others j other ∙ s.unfailed j lt (sym (still j other) ∙ d);
       holds = λ l. absurd (true≢false l);
-      reads = λ l. absurd (true≢false l);
-      writes = λ l. absurd (true≢false l);
     }
 
 -- a call that its numbers don't refuse lies inside the segment

@@ -3,7 +3,7 @@ use Rattle.std.specs.Prelude.{◌≡◌, List, [], ◌∷◌, length, map, true,
 use Rattle.cod_types.specs.Limits.{Shape}
 use Rattle.cod_types.specs.Plain.{refusal}
 use Rattle.cod_scenario.specs.Plan.{Ask}
-use Rattle.cod_scenario.specs.Form.{is_built_call}
+use Rattle.codfs_tool.specs.Built.{is_built_call}
 use Rattle.codfs_tool.specs.Serving.{HasRoom}
 use Rattle.codfs_tool.specs.Standing.{ask}
 use Rattle.codfs_tool.specs.declared.slip.Slip.{Slip}

@@ -1,6 +1,6 @@
 -- Where a run over data columns alone has come to.
-use Rattle.std.specs.Prelude.{◌≡◌, ℕ, ◌+◌, ◌*◌, ◌<◌, ◌≤◌, ◌^◌, not, ◌&&◌, Bool, true, false, List, [], ◌∷◌, length, get_or}
-use Rattle.std.specs.List.{fold, filter_map, range_with_len, AllByRecursion}
+use Rattle.std.specs.Prelude.{◌≡◌, ℕ, ◌+◌, ◌*◌, ◌<◌, ◌≤◌, ◌^◌, not, Bool, true, false, List, [], ◌∷◌, length, get_or}
+use Rattle.std.specs.List.{filter_map, range_with_len, AllByRecursion}
 use Rattle.std.specs.Option.{is_some}
 use Rattle.cod_types.specs.Limits.{Shape}
 use Rattle.cod_types.specs.declared.call.Call.{Call as Asked}
@@ -10,29 +10,16 @@ use Rattle.cod_region.specs.Device.{Device}
 use Rattle.cod_chronicle.specs.declared.entry.Entry.{Entry}
 use Rattle.cod_chronicle.specs.declared.entry.Entry.TheVariants.{Call, Down, Up, Move}
 use Rattle.cod_chronicle.specs.declared.entry.Cause.TheVariants.{Killed, Fault}
-use Rattle.cod_chronicle.specs.Said.{site_as, stamp_of, numbers_by, is_refused, is_down, is_over, bytes_of}
+use Rattle.cod_chronicle.specs.Said.{site_as, stamp_of, numbers_by, is_down, is_over, bytes_of}
 use Rattle.cod_chronicle.specs.Legal.{IsLegal}
 use Rattle.cod_scenario.specs.Plan.{Ask}
 use Rattle.cod_scenario.specs.Owed.{asked_in}
-use Rattle.codfs_tool.specs.Blocks.{device_at, HoldBlocks, counted}
-use Rattle.codfs_tool.specs.Serving.{reads_column, writes_column}
+use Rattle.codfs_tool.specs.Blocks.{device_at, HoldBlocks}
 
 -- the stamps are n, n + 1 and so on
 abbrev pub CountsFrom : ℕ → List Entry → Type 0
 CountsFrom n [] = Unit {0}
 CountsFrom n (e ∷ h) = (stamp_of e ≡ n) × CountsFrom (n + 1) h
-
--- a count of calls of column j, after one more entry; a call that was refused makes none
-abbrev pub count_next : (Asked → ℕ → Bool) → ℕ → ℕ → Entry → ℕ
-count_next calls j n (Call caller number stamp asked reply) = counted (not (is_refused reply) && calls asked j) n
-count_next calls j n _ = n
-
--- how often the calls of a chronicle read column j, and how often they write it
-abbrev pub reads_of : (block j : ℕ) → List Entry → ℕ
-reads_of block j h = fold (count_next (reads_column block) j) 0 h
-
-abbrev pub writes_of : (block j : ℕ) → List Entry → ℕ
-writes_of block j h = fold (count_next (writes_column block) j) 0 h
 
 -- what the one client asked of the one segment
 abbrev pub asked_of : List Entry → List Ask
@@ -81,8 +68,6 @@ pub record Standing (told : Bool) (sure : List Bool) (g : Shape) (nodes : ℕ) (
   pub unmarked_live : (j : ℕ) → j < g.n → get_or unmarked j false ≡ not (is_down h j)
   pub unfailed : (j : ℕ) → j < g.n → is_down h j ≡ false → (device_at ds j).faults ≡ 0
   pub holds : lost ≡ false → told ≡ true → HoldBlocks g.block ds (bytes_of (site_as told g nodes 0) h)
-  pub reads : lost ≡ false → (j : ℕ) → j < g.n → (device_at ds j).reads ≡ reads_of g.block j h
-  pub writes : lost ≡ false → (j : ℕ) → j < g.n → (device_at ds j).writes ≡ writes_of g.block j h
 
 -- such a run, whatever the regions tell
 abbrev pub IsRunning : (g : Shape) (nodes : ℕ) (ds : List Device) (unmarked : List Bool) (lost : Bool) (h : List Entry) → Type 0

@@ -1,9 +1,10 @@
 //! The bytes of a segment, cut into the blocks of its data regions.
-ghost use Rattle.std.specs.Prelude.{◌≡◌, ◌≢◌, ◌+◌, ◌*◌, ◌≤◌, ◌<◌, ◌^◌, ℕ, List, length, map, take, drop, Some, OnOk, IfErr};
+ghost use Rattle.std.specs.Prelude.{◌≡◌, ◌≢◌, ◌+◌, ◌*◌, ◌≤◌, ◌<◌, ◌^◌, ◌&&◌, nat_le, false, ℕ, List, length, map, take, drop, Some, OnOk, IfErr};
 ghost use Rattle.std.specs.Option.{option_map};
 ghost use Rattle.cod_types.specs.Faults.{HasCause};
 ghost use Rattle.cod_types.specs.Overwritten.{replaced};
 ghost use Rattle.codfs_tool.specs.Blocks.{AreSized, AreChanged, Breaks, HoldBlocks, after_read, after_write, counted, meets};
+ghost use Rattle.codfs_tool.specs.Counts.{AreCalled};
 
 use cod_region::Region;
 use cod_types::Failed;
@@ -64,6 +65,7 @@ pub fn write<R: Region>(
     requires range { off + length bytes.now < 2 ^ 63 }
     ensures done { OnOk result (AreChanged (after_write block off bytes.now) (length regions.old) (map R.device regions.old) (map R.device regions.new)) }
     ensures failed { IfErr result (λ col. Breaks col (map R.device regions.old) (map R.device regions.new)) }
+    ensures called { IfErr result (λ col. AreCalled (λ j. false) (λ j. meets block off (length bytes.now) (j * block) && nat_le j col) (map R.device regions.old) (map R.device regions.new)) }
 {
     for column in 0..regions.len() {
         let region = &mut regions[column];
@@ -87,6 +89,7 @@ pub fn read<R: Region>(
     ensures done { OnOk result (AreChanged (after_read block off (length into.old)) (length regions.old) (map R.device regions.old) (map R.device regions.new)) }
     ensures bytes { (b : List ℕ) → length b ≡ length regions.old * block → HoldBlocks block (map R.device regions.old) b → OnOk result (into.new ≡ take (length into.old) (drop off b)) }
     ensures failed { IfErr result (λ col. Breaks col (map R.device regions.old) (map R.device regions.new)) }
+    ensures called { IfErr result (λ col. AreCalled (λ j. meets block off (length into.old) (j * block) && nat_le j col) (λ j. false) (map R.device regions.old) (map R.device regions.new)) }
 {
     for column in 0..regions.len() {
         let region = &mut regions[column];

@@ -8,9 +8,10 @@ ghost use Rattle.cod_chronicle.specs.declared.entry.Entry.TheVariants as entry;
 ghost use Rattle.cod_chronicle.specs.declared.entry.Cause.TheVariants as cause;
 ghost use Rattle.cod_chronicle.specs.Said.{clock_of, is_refused};
 ghost use Rattle.cod_chronicle.specs.Legal.{IsPlain, node_id};
-ghost use Rattle.cod_scenario.specs.Form.{is_built_call};
+ghost use Rattle.codfs_tool.specs.Built.{is_built_call};
 ghost use Rattle.cod_scenario.specs.Plan.{Ask};
 ghost use Rattle.codfs_tool.specs.Blocks.{AreSized, AreChanged, Breaks, HoldBlocks, device_at};
+ghost use Rattle.codfs_tool.specs.Counts.{Counts, IsStopped};
 ghost use Rattle.codfs_tool.specs.Serving.{served, HasRoom, IsInside};
 ghost use Rattle.codfs_tool.specs.Standing.{HasNoReasons};
 
@@ -60,6 +61,7 @@ pub fn serve<R: Region>(
     ensures kept { IfOk result (λ r. (is_refused r ≡ false) × HasNoReasons r) }
     ensures untold { IfOk result (λ r. IsPlain false [] call.now r) }
     ensures failed { IfErr result (λ col. Breaks col (map R.device regions.old) (map R.device regions.new)) }
+    ensures called { IfErr result (λ col. IsStopped block call.now col (map R.device regions.old) (map R.device regions.new)) }
 {
     let mut room = room;
     match call {
@@ -137,6 +139,9 @@ impl<R: Region> Segment<R> {
             → Standing told sure self.old.geometry self.old.nodes (map R.device self.old.regions.items) (map is_some self.old.marks.items) self.old.lost self.old.chronicle asked
             → Standing told sure self.old.geometry self.old.nodes (map R.device self.new.regions.items) (map is_some self.new.marks.items) self.new.lost
             (self.new.chronicle ++ entered (length asked) (clock_of self.new.chronicle + 1) call.now result ∷ []) (asked ++ ask call.now ∷ []) }
+        ensures counts { (number stamp : ℕ)
+            → Counts self.old.lost self.old.geometry.block (map R.device self.old.regions.items) self.old.chronicle
+            → Counts self.new.lost self.old.geometry.block (map R.device self.new.regions.items) (self.new.chronicle ++ entered number stamp call.now result ∷ []) }
     {
         if let Some(refused) = refusal(&self.geometry, call) {
             return refused;
@@ -167,6 +172,8 @@ impl<R: Region> Segment<R> {
         ensures stands { (told : Bool) (sure : List Bool) (asked : List Ask)
             → Standing told sure self.old.geometry self.old.nodes (map R.device self.old.regions.items) (map is_some self.old.marks.items) self.old.lost self.old.chronicle asked
             → Standing told sure self.old.geometry self.old.nodes (map R.device self.new.regions.items) (map is_some self.new.marks.items) self.new.lost self.new.chronicle (asked ++ ask slip.call ∷ []) }
+        ensures counts { Counts self.old.lost self.old.geometry.block (map R.device self.old.regions.items) self.old.chronicle
+            → Counts self.new.lost self.old.geometry.block (map R.device self.new.regions.items) self.new.chronicle }
     {
         let Slip { call, link, room } = slip;
         let reply = self.reply(&call, room);

@@ -14,7 +14,7 @@ pub enum InputError {
 }
 
 /// The most bytes of a text.
-pub const LIMIT: usize = 1 << 24;
+const LIMIT: usize = 1 << 24;
 
 /// The bytes to the end, or the first LIMIT + 1. `Failed` comes only where the source's count of faults rose.
 pub fn all<S: Source>(alloc: Global, source: &mut S) -> Result<Vec<u8>, InputError>

@@ -1,11 +1,18 @@
-//! Replays a scenario and prints what happened.
+//! Replays, checks or plans a scenario, or prints the coefficients of a code.
 #![tactic(auto)]
 
 mod building;
+mod built;
+mod checking;
+mod coding;
 mod columns;
+mod command;
 mod engine;
 mod input;
+mod pieces;
+mod planning;
 mod printing;
+mod refusing;
 mod running;
 mod slip;
 #[cfg(test)]

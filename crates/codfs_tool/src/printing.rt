@@ -5,16 +5,17 @@ ghost use Rattle.std.specs.Option.{is_some};
 ghost use Rattle.cod_types.specs.Faults.{HasCause};
 ghost use Rattle.cod_chronicle.specs.Order.{place};
 ghost use Rattle.cod_text.specs.Printed.{line_text};
-ghost use Rattle.cod_text.specs.Puts.{Puts};
+ghost use Rattle.cod_print.specs.Puts.{Puts};
 ghost use Rattle.codfs_tool.specs.Lines.{device_text, devices_text};
-ghost use Rattle.codfs_tool.specs.Replays.{node_line, nodes_text};
+ghost use Rattle.codfs_tool.specs.Planned.{nodes_text};
 
 use crate::engine::Segment;
+use crate::planning::node_lines;
 use cod_chronicle::Link;
 use cod_io::Sink;
+use cod_print::WriteFault;
 use cod_region::Region;
 use cod_scenario::Scenario;
-use cod_text::WriteFault;
 use cod_types::{LayoutLine, NodeId, SegId};
 
 /// The line of a column, whose region this is.
@@ -63,34 +64,6 @@ fn columns<W: Sink, R: Region>(
     Ok(())
 }
 
-/// The line of a node, on which nothing was killed.
-#[tactic(auto, unfolding(crate::specs::Replays::node_line))]
-fn node<W: Sink>(sink: &mut W, names: &Scenario, node: u8) -> Result<(), WriteFault>
-    requires { names.now.shape.block ≤ names.now.capacity }
-    ensures text { Puts result (W.taken sink.old) (W.taken sink.new) (node_line names.now node) }
-    ensures cause { HasCause (W.fault_count sink.old) (W.fault_count sink.new) result }
-{
-    let taken = if node < names.geometry().n() {
-        names.geometry().block()
-    } else {
-        0
-    };
-    let free = names.capacity() - taken;
-    cod_text::node(sink, NodeId(node), true, taken, free)
-}
-
-/// The lines of the nodes.
-fn nodes<W: Sink>(sink: &mut W, names: &Scenario) -> Result<(), WriteFault>
-    requires { names.now.shape.block ≤ names.now.capacity }
-    ensures text { Puts result (W.taken sink.old) (W.taken sink.new) (nodes_text names.now) }
-    ensures cause { HasCause (W.fault_count sink.old) (W.fault_count sink.new) result }
-{
-    for x in 0..names.nodes() {
-        node(sink, names, x)?;
-    }
-    Ok(())
-}
-
 /// The whole text: the lines of the chronicle, of the columns and of the nodes.
 pub fn print<W: Sink, R: Region>(
     sink: &mut W,
@@ -98,7 +71,7 @@ pub fn print<W: Sink, R: Region>(
     segment: &Segment<R>,
 ) -> Result<(), WriteFault>
     requires there { 0 < length names.now.segments }
-    requires room { names.now.shape.block ≤ names.now.capacity }
+    requires nodes { 1 ≤ names.now.nodes }
     requires few { length segment.now.regions.items ≤ 16 }
     requires marks { length segment.now.marks.items ≡ length segment.now.regions.items }
     ensures text { Puts result (W.taken sink.old) (W.taken sink.new)
@@ -108,5 +81,5 @@ pub fn print<W: Sink, R: Region>(
 {
     cod_text::segment(sink, names, SegId(0), &segment.chronicle)?;
     columns(sink, names, &segment.regions, &segment.marks)?;
-    nodes(sink, names)
+    node_lines(sink, names)
 }

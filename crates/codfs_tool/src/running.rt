@@ -1,8 +1,10 @@
 //! All calls of the client, one after another.
-ghost use Rattle.std.specs.Prelude.{◌≡◌, ◌≤◌, ◌<◌, ◌++◌, ◌∷◌, [], ℕ, List, Bool, length, map, IfOk};
+ghost use Rattle.std.specs.Prelude.{◌≡◌, ◌≤◌, ◌<◌, ◌^◌, ◌++◌, ◌∷◌, [], ℕ, List, Bool, true, length, map, IfOk};
+ghost use Rattle.std.specs.List.{list_all};
 ghost use Rattle.std.specs.Option.{is_some};
 ghost use Rattle.cod_scenario.specs.Plan.{Ask, asks};
-ghost use Rattle.cod_scenario.specs.Form.{AreBuiltFrom};
+ghost use Rattle.codfs_tool.specs.Built.{is_built_line};
+ghost use Rattle.codfs_tool.specs.Counts.{Counts};
 ghost use Rattle.codfs_tool.specs.Ready.{AreReady, asks_of};
 ghost use Rattle.codfs_tool.specs.Standing.{Standing, IsRunning, asked_of};
 
@@ -16,10 +18,9 @@ use std::collections::VecDeque;
 
 /// A slip for each call of the lines.
 pub fn slips(alloc: Global, g: &Geometry, lines: &[Line]) -> Result<VecDeque<Slip>, OutOfMemory>
-    requires { AreBuiltFrom 11 lines.now }
+    requires { list_all is_built_line lines.now ≡ true }
     ensures calls { IfOk result (λ q. asks_of q.items ≡ asks lines.now) }
     ensures ready { IfOk result (λ q. AreReady g.now q.items) }
-    ensures count { IfOk result (λ q. length q.items ≤ length lines.now) }
 {
     let mut slips = VecDeque::new(alloc);
     for line in lines {
@@ -39,11 +40,13 @@ pub fn run<R: Region>(segment: &mut Segment<R>, slips: VecDeque<Slip>)
     requires running { IsRunning segment.old.geometry segment.old.nodes (map R.device segment.old.regions.items) (map is_some segment.old.marks.items) segment.old.lost segment.old.chronicle }
     requires empty { segment.old.chronicle ≡ [] }
     requires ready { AreReady segment.old.geometry slips.items }
-    requires few { length slips.items ≤ 1000 }
+    requires few { length slips.items < 2 ^ 32 }
     ensures geometry { (segment.new.geometry ≡ segment.old.geometry) × (segment.new.nodes ≡ segment.old.nodes) }
     ensures stands { (told : Bool) (sure : List Bool)
         → Standing told sure segment.old.geometry segment.old.nodes (map R.device segment.old.regions.items) (map is_some segment.old.marks.items) segment.old.lost segment.old.chronicle []
         → Standing told sure segment.old.geometry segment.old.nodes (map R.device segment.new.regions.items) (map is_some segment.new.marks.items) segment.new.lost segment.new.chronicle (asks_of slips.items) }
+    ensures counts { Counts segment.old.lost segment.old.geometry.block (map R.device segment.old.regions.items) segment.old.chronicle
+        → Counts segment.new.lost segment.old.geometry.block (map R.device segment.new.regions.items) segment.new.chronicle }
 {
     let mut slips = slips;
     let mut number = 0;

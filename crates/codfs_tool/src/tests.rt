@@ -53,9 +53,17 @@ fn refused_texts(rt: HostRuntime) -> Result<(), Fail> {
         "codfs 1\nnodes 5 1000\ncode 4 2\nblock 1\nupdate 1\nreserve 40\nunit 1\nalpha 5000\nsegment s\nclient a\nput s 0102\nwrite s 0 05\nread s 0 2\nend\n";
     let cut =
         "codfs 1\nnodes 2 100\ncode 2 2\nblock 4\nupdate 4\nreserve 46\nunit 1\nalpha 5000\nsegment s\nclient a\nend";
-    for text in ["", "codfs 1\n", parity, cut] {
-        assert_eq!(rt; ends(rt.alloc(), text, 4096, &[], "line 0: notbuilt\n")?, 3);
+    for (text, want) in [
+        ("", "line 1: noend\n"),
+        ("codfs 1\n", "line 2: noend\n"),
+        ("codfs 1\nnodes 2\n", "line 2: count\n"),
+        (parity, "line 0: notbuilt\n"),
+    ] {
+        assert_eq!(rt; ends(rt.alloc(), text, 4096, &[], want)?, 3);
     }
+    let unused =
+        "layout s 0 0 up len 4 reads 0 writes 0\nlayout s 1 1 up len 4 reads 0 writes 0\nnode 0 up taken 4 free 96\nnode 1 up taken 4 free 96\n";
+    assert_eq!(rt; ends(rt.alloc(), cut, 4096, &[], unused)?, 0);
     Ok(())
 }
 
@@ -78,7 +86,7 @@ fn long_text(rt: HostRuntime) -> Result<(), Fail> {
 #[test]
 fn other_words(rt: HostRuntime) -> Result<(), Fail> {
     let alloc = rt.alloc();
-    for word in ["check", "", "replay x"] {
+    for word in ["checks", "", "replay x"] {
         let words = [String::from_str(alloc, word)?];
         let mut source = MemSource::new(alloc, FIRST.as_bytes(), 4096, &[])?;
         let mut sink = MemSink::new(alloc, 100, &[])?;
@@ -102,6 +110,150 @@ fn other_words(rt: HostRuntime) -> Result<(), Fail> {
         tool(alloc, &words, &mut source, &mut sink, MemShelf::new()),
         2
     );
+    Ok(())
+}
+
+/// What is printed of the first scenario without running it.
+#[test]
+fn checks_and_plans(rt: HostRuntime) -> Result<(), Fail> {
+    let alloc = rt.alloc();
+    for (word, want) in [
+        ("check", "ok segments 1 clients 1 calls 3\n"),
+        (
+            "plan",
+            "plan s 0 1\nnode 0 up taken 4 free 96\nnode 1 up taken 4 free 96\n",
+        ),
+    ] {
+        let words = [String::from_str(alloc, word)?];
+        let mut source = MemSource::new(alloc, FIRST.as_bytes(), 4096, &[])?;
+        let mut sink = MemSink::new(alloc, 1000, &[])?;
+        let status = tool(alloc, &words, &mut source, &mut sink, MemShelf::new());
+        assert_eq!(rt; status, 0);
+        assert_eq!(rt; sink.bytes(), want.as_bytes());
+    }
+    Ok(())
+}
+
+/// Nine lines before the clients: two data columns and two parity columns on five nodes.
+const HEADER: &str =
+    "codfs 1\nnodes 5 1000\ncode 4 2\nblock 1\nupdate 1\nreserve 40\nunit 1\nalpha 5000\nsegment s\n";
+
+/// The status of a command of one word over a text, or 100 where something else than `want` was printed.
+fn one_word(alloc: Global, word: &str, text: &str, want: &str) -> Result<u8, Fail> {
+    let words = [String::from_str(alloc, word)?];
+    let mut source = MemSource::new(alloc, text.as_bytes(), 4096, &[])?;
+    let mut sink = MemSink::new(alloc, 1000, &[])?;
+    let status = tool(alloc, &words, &mut source, &mut sink, MemShelf::new());
+    if sink.bytes() == want.as_bytes() {
+        Ok(status)
+    } else {
+        Ok(100)
+    }
+}
+
+#[test]
+fn parity_columns(rt: HostRuntime) -> Result<(), Fail> {
+    let alloc = rt.alloc();
+    let text = format!(in alloc; "{HEADER}client a\nput s 0102\nwrite s 0 05\nread s 0 2\nend\n")?;
+    let check = "ok segments 1 clients 1 calls 3\n";
+    assert_eq!(rt; one_word(alloc, "check", text.as_str(), check)?, 0);
+    let plan =
+        "plan s 0 1 2 3\nnode 0 up taken 1 free 999\nnode 1 up taken 1 free 999\nnode 2 up taken 41 free 959\nnode 3 up taken 41 free 959\nnode 4 up taken 0 free 1000\n";
+    assert_eq!(rt; one_word(alloc, "plan", text.as_str(), plan)?, 0);
+    let notbuilt = "line 0: notbuilt\n";
+    assert_eq!(rt; one_word(alloc, "replay", text.as_str(), notbuilt)?, 3);
+    let care = format!(in alloc; "{HEADER}client a\nread s 0 1\ncare 2 3\nend\n")?;
+    let check = "ok segments 1 clients 1 calls 1\n";
+    assert_eq!(rt; one_word(alloc, "check", care.as_str(), check)?, 0);
+    Ok(())
+}
+
+/// Each refused text prints its line and nothing else.
+#[test]
+fn refused_lines(rt: HostRuntime) -> Result<(), Fail> {
+    let alloc = rt.alloc();
+    let tails: [(&str, &str); 10] = [
+        ("client a\nwrite s 0 0\nend\n", "line 11: data\n"),
+        ("client a\nread t 0 1\nend\n", "line 11: unknown\n"),
+        ("client a\nfail 5\nend\n", "line 11: node\n"),
+        ("client a\nread s 0\nend\n", "line 11: count\n"),
+        ("client a\nread s x 1\nend\n", "line 11: number\n"),
+        ("client a\nput s 00*16777217\nend\n", "line 11: field\n"),
+        ("client a\nput s 0102\nend\nx\n", "line 13: afterend\n"),
+        ("client a\nput s 0102\n", "line 12: noend\n"),
+        ("segment s\nclient a\nend\n", "line 10: twice\n"),
+        ("care 2 3\nend\n", "line 10: order\n"),
+    ];
+    for (tail, want) in tails {
+        let text = format!(in alloc; "{HEADER}{tail}")?;
+        assert_eq!(rt; one_word(alloc, "check", text.as_str(), want)?, 3);
+    }
+    let texts: [(&str, &str); 6] = [
+        ("", "line 1: noend\n"),
+        ("hello\n", "line 1: word\n"),
+        ("block 1\n", "line 1: order\n"),
+        ("codfs 1\nnodes 5 1000\ncode 4\t2\n", "line 3: badbyte\n"),
+        (
+            "codfs 1\nnodes 5 82\ncode 4 2\nblock 1\nupdate 1\nreserve 40\nunit 1\nalpha 5000\nsegment s\nsegment t\nsegment u\n",
+            "line 11: room\n",
+        ),
+        (
+            "codfs 1\nnodes 16 4294967295\ncode 16 8\nblock 1048576\nupdate 65536\nreserve 4194304\nunit 1\nalpha 0\nsegment s\nsegment t\nsegment u\nsegment v\n",
+            "line 12: toolarge\n",
+        ),
+    ];
+    for (text, want) in texts {
+        assert_eq!(rt; one_word(alloc, "check", text, want)?, 3);
+    }
+    Ok(())
+}
+
+/// The status of the command of these words over the first scenario, or 100 where something else than `want` was printed or
+/// the source was read.
+fn code_ends(alloc: Global, words: &[&str], want: &str) -> Result<u8, Fail> {
+    let mut owned = Vec::new(alloc);
+    for word in words {
+        owned.push(String::from_str(alloc, word)?)?;
+    }
+    let mut source = MemSource::new(alloc, FIRST.as_bytes(), 4096, &[0])?;
+    let mut sink = MemSink::new(alloc, 1000, &[])?;
+    let status = tool(alloc, &owned, &mut source, &mut sink, MemShelf::new());
+    if sink.bytes() == want.as_bytes() && source.faults() == 0 {
+        Ok(status)
+    } else {
+        Ok(100)
+    }
+}
+
+#[test]
+fn codes(rt: HostRuntime) -> Result<(), Fail> {
+    let alloc = rt.alloc();
+    let cases: [(&str, &str, &str); 5] = [
+        ("4", "2", "code 4 2\n2 03 02\n3 02 03\n"),
+        (
+            "0000000006",
+            "04",
+            "code 6 4\n4 1b 1c 12 14\n5 1c 1b 14 12\n",
+        ),
+        ("3", "1", "code 3 1\n1 01\n2 01\n"),
+        ("2", "2", "code 2 2\n"),
+        ("16", "16", "code 16 16\n"),
+    ];
+    for (n, k, want) in cases {
+        assert_eq!(rt; code_ends(alloc, &["code", n, k], want)?, 0);
+    }
+    for (n, k) in [
+        ("1", "2"),
+        ("17", "2"),
+        ("4", "0"),
+        ("00000000004", "2"),
+        ("+4", "2"),
+        ("4", ""),
+        ("9999999999", "2"),
+    ] {
+        assert_eq!(rt; code_ends(alloc, &["code", n, k], "words\n")?, 2);
+    }
+    assert_eq!(rt; code_ends(alloc, &["code", "4"], "words\n")?, 2);
     Ok(())
 }
 
@@ -142,17 +294,21 @@ fn sink_that_fails(rt: HostRuntime) -> Result<(), Fail> {
     Ok(())
 }
 
-/// The region of node 0 fails at its second call, where the client writes: the segment is lost from there.
+/// The region of node 0 fails where the client writes, as it reads the old bytes (its second call) or as it writes (its third):
+/// the segment is lost from there.
 #[test]
 fn region_that_fails(rt: HostRuntime) -> Result<(), Fail> {
     let alloc = rt.alloc();
     let words = [String::from_str(alloc, "replay")?];
-    let mut source = MemSource::new(alloc, FIRST.as_bytes(), 4096, &[])?;
-    let mut sink = MemSink::new(alloc, 1000, &[])?;
-    let shelf = FaultyShelf::new(alloc, &[(NodeId(0), 1)])?;
-    assert_eq!(rt; tool(alloc, &words, &mut source, &mut sink, shelf), 0);
-    let want =
-        "1 s a 0 put 0102030405060708 -> done\n2 s = down 0 0 fault 1\n3 s a 1 write 2 aabb -> lost\n4 s a 2 read 0 8 -> lost\n";
-    assert!(rt; sink.bytes().starts_with(want.as_bytes()));
+    for (call, counts) in [(1u64, "reads 1 writes 1"), (2, "reads 1 writes 2")] {
+        let mut source = MemSource::new(alloc, FIRST.as_bytes(), 4096, &[])?;
+        let mut sink = MemSink::new(alloc, 1000, &[])?;
+        let shelf = FaultyShelf::new(alloc, &[(NodeId(0), call)])?;
+        assert_eq!(rt; tool(alloc, &words, &mut source, &mut sink, shelf), 0);
+        let want = format!(in alloc;
+            "1 s a 0 put 0102030405060708 -> done\n2 s = down 0 0 fault 1\n3 s a 1 write 2 aabb -> lost\n4 s a 2 read 0 8 -> lost\nlayout s 0 0 down len 4 {counts}\nlayout s 1 1 up len 4 reads 0 writes 1\nnode 0 up taken 4 free 96\nnode 1 up taken 4 free 96\n"
+        )?;
+        assert_eq!(rt; sink.bytes(), want.as_bytes());
+    }
     Ok(())
 }

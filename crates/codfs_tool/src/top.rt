@@ -1,21 +1,30 @@
 //! All that the program does.
-ghost use Rattle.std.specs.Prelude.{◌≡◌, ◌⊎◌, ◌↔◌, ◌≤◌, ◌<◌, [], ◌∷◌, ℕ, Bool, true, List, length, map, codes, IfOk, string_bytes, IsTrue};
+ghost use Rattle.std.specs.Prelude.{◌≡◌, ◌⊎◌, ◌↔◌, ◌≤◌, ◌<◌, [], ◌∷◌, ℕ, Bool, true, false, None, Some, List, length, map, codes, IfOk, string_bytes};
 ghost use Rattle.std.specs.Option.{is_some};
 ghost use Rattle.cod_types.specs.Faults.{Rose};
 ghost use Rattle.cod_chronicle.specs.Legal.{node_id};
-ghost use Rattle.cod_scenario.specs.Form.{IsBuilt};
-ghost use Rattle.cod_text.specs.Puts.{TakesFront};
+ghost use Rattle.cod_print.specs.Puts.{TakesFront};
 ghost use Rattle.codfs_tool.specs.HasRun.{HasRun};
-ghost use Rattle.codfs_tool.specs.Replays.{Ran, Replays, TakesAll, TakesLine, RefusesText, IsReplay};
+ghost use Rattle.codfs_tool.specs.Coefficients.{coefficients_text};
+ghost use Rattle.codfs_tool.specs.Commands.{command_of};
+ghost use Rattle.codfs_tool.specs.Built;
+ghost use Rattle.codfs_tool.specs.Built.{IsFit};
+ghost use Rattle.codfs_tool.specs.Refused.{refusal_text};
+ghost use Rattle.codfs_tool.specs.Planned.{check_text, plan_text};
+ghost use Rattle.codfs_tool.specs.Replays.{CanServe, Does, Ran, Reads, Refuses, RefusesPlan, RefusesText, Serves, TakesAll, TakesLine, reads_source};
 
 use crate::building::build;
+use crate::built::is_built;
+use crate::command::{Command, Purpose};
 use crate::engine::Segment;
-use crate::input::{InputError, LIMIT, all};
+use crate::input::{InputError, all};
 use crate::printing::print;
 use crate::running::{run, slips};
+use crate::{checking, coding, planning, refusing};
+use cod_code::Code;
 use cod_io::{Sink, Source};
 use cod_region::Shelf;
-use cod_scenario::{Scenario, ScenarioError};
+use cod_scenario::{Refusal, Scenario, ScenarioError};
 use cod_types::OutOfMemory;
 use std::alloc::Global;
 
@@ -36,7 +45,14 @@ const NO_MEMORY: u8 = 6;
 fn refuse<W: Sink>(sink: &mut W, line: &[u8])
     ensures { TakesLine (W.taken sink.old) (W.taken sink.new) (W.fault_count sink.old) (W.fault_count sink.new) line.now }
 {
-    let _ = cod_text::text(sink, line);
+    let _ = cod_print::text(sink, line);
+}
+
+/// Prints why a text is no scenario. A sink that fails changes nothing.
+fn refuse_text<W: Sink>(sink: &mut W, line: u32, why: Refusal)
+    ensures { TakesLine (W.taken sink.old) (W.taken sink.new) (W.fault_count sink.old) (W.fault_count sink.new) (refusal_text line why) }
+{
+    let _ = refusing::print(sink, line, why);
 }
 
 /// The segment after all calls of the client.
@@ -45,7 +61,8 @@ fn played<H: Shelf>(
     scenario: &Scenario,
     shelf: &H,
 ) -> Result<Segment<H::Region>, OutOfMemory>
-    requires { IsBuilt scenario.now }
+    requires fit { IsFit scenario.now }
+    requires built { Built.is_built scenario.now ≡ true }
     ensures { IfOk result (λ s. HasRun ((r : H.Region) → is_some (H.Region.device r).content ≡ true) (λ j. H.never_fails shelf.now (node_id j)) scenario.now (map H.Region.device s.regions.items) (map is_some s.marks.items) s.lost s.chronicle) }
 {
     let mut segment = match build(alloc, shelf, *scenario.geometry(), scenario.nodes()) {
@@ -62,7 +79,8 @@ fn played<H: Shelf>(
 
 /// Replays a scenario and prints what happened.
 fn replay<W: Sink, H: Shelf>(alloc: Global, scenario: &Scenario, shelf: &H, sink: &mut W) -> u8
-    requires { IsBuilt scenario.now }
+    requires fit { IsFit scenario.now }
+    requires built { Built.is_built scenario.now ≡ true }
     ensures done { result ≡ 0 → Ran ((r : H.Region) → is_some (H.Region.device r).content ≡ true) (λ j. H.never_fails shelf.now (node_id j)) scenario.now (TakesAll (W.taken sink.old) (W.taken sink.new)) }
     ensures failed { result ≡ 5 → Rose (W.fault_count sink.old) (W.fault_count sink.new) }
     ensures front { result ≡ 5 → Ran ((r : H.Region) → is_some (H.Region.device r).content ≡ true) (λ j. H.never_fails shelf.now (node_id j)) scenario.now (TakesFront (W.taken sink.old) (W.taken sink.new)) }
@@ -78,28 +96,79 @@ fn replay<W: Sink, H: Shelf>(alloc: Global, scenario: &Scenario, shelf: &H, sink
     }
 }
 
-/// Whether the words are those of the one command.
-fn is_replay(words: &[String]) -> bool
-    ensures { IsTrue result ↔ IsReplay (map (λ w. string_bytes w) words.now) }
+/// Prints how much a scenario asks for.
+fn check<W: Sink>(scenario: &Scenario, sink: &mut W) -> u8
+    requires { IsFit scenario.now }
+    ensures done { result ≡ 0 → TakesAll (W.taken sink.old) (W.taken sink.new) (check_text scenario.now) }
+    ensures failed { result ≡ 5 → Rose (W.fault_count sink.old) (W.fault_count sink.new) }
+    ensures front { result ≡ 5 → TakesFront (W.taken sink.old) (W.taken sink.new) (check_text scenario.now) }
+    ensures statuses { (result ≡ 0) ⊎ (result ≡ 5) }
 {
-    match words {
-        [word] => word.as_str() == "replay",
-        _ => false,
+    match checking::print(sink, scenario) {
+        Ok(_) => DONE,
+        Err(_) => SINK_FAILED,
     }
 }
 
-/// Replays the text of the source.
-fn replay_text<S: Source, W: Sink, H: Shelf>(
+/// Prints where the columns of a scenario stand at first.
+fn plan<W: Sink>(scenario: &Scenario, sink: &mut W) -> u8
+    requires { IsFit scenario.now }
+    ensures done { result ≡ 0 → TakesAll (W.taken sink.old) (W.taken sink.new) (plan_text scenario.now) }
+    ensures failed { result ≡ 5 → Rose (W.fault_count sink.old) (W.fault_count sink.new) }
+    ensures front { result ≡ 5 → TakesFront (W.taken sink.old) (W.taken sink.new) (plan_text scenario.now) }
+    ensures statuses { (result ≡ 0) ⊎ (result ≡ 5) }
+{
+    match planning::print(sink, scenario) {
+        Ok(_) => DONE,
+        Err(_) => SINK_FAILED,
+    }
+}
+
+/// Does what a scenario was read for. A replay of one that isn't built is refused.
+fn serve<W: Sink, H: Shelf>(
     alloc: Global,
+    purpose: Purpose,
+    scenario: &Scenario,
+    shelf: &H,
+    sink: &mut W,
+) -> u8
+    requires { IsFit scenario.now }
+    ensures done { result ≡ 0 → Serves ((r : H.Region) → is_some (H.Region.device r).content ≡ true) (λ j. H.never_fails shelf.now (node_id j)) purpose (TakesAll (W.taken sink.old) (W.taken sink.new)) scenario.now }
+    ensures refused { result ≡ 3 → RefusesPlan purpose (TakesLine (W.taken sink.old) (W.taken sink.new) (W.fault_count sink.old) (W.fault_count sink.new)) scenario.now }
+    ensures failed { result ≡ 5 → Rose (W.fault_count sink.old) (W.fault_count sink.new) }
+    ensures front { result ≡ 5 → Serves ((r : H.Region) → is_some (H.Region.device r).content ≡ true) (λ j. H.never_fails shelf.now (node_id j)) purpose (TakesFront (W.taken sink.old) (W.taken sink.new)) scenario.now }
+    ensures memory { result ≡ 6 → (W.taken sink.new ≡ W.taken sink.old) × (W.fault_count sink.new ≡ W.fault_count sink.old) }
+    ensures statuses { (result ≡ 0) ⊎ ((result ≡ 3) ⊎ ((result ≡ 5) ⊎ (result ≡ 6))) }
+{
+    match purpose {
+        Purpose::Replay => {
+            if is_built(scenario) {
+                replay(alloc, scenario, shelf, sink)
+            } else {
+                refuse(sink, b"line 0: notbuilt\n");
+                REFUSED
+            }
+        }
+        Purpose::Check => check(scenario, sink),
+        Purpose::Plan => plan(scenario, sink),
+    }
+}
+
+/// Reads the scenario of the source, and does what it is read for.
+fn serve_text<S: Source, W: Sink, H: Shelf>(
+    alloc: Global,
+    purpose: Purpose,
     source: &mut S,
     sink: &mut W,
     shelf: &H,
 ) -> u8
-    ensures done { result ≡ 0 → Replays ((r : H.Region) → is_some (H.Region.device r).content ≡ true) (λ j. H.never_fails shelf.now (node_id j)) (S.left source.old) (S.left source.new) (TakesAll (W.taken sink.old) (W.taken sink.new)) }
-    ensures refused { result ≡ 3 → RefusesText (S.left source.old) (S.left source.new) (TakesLine (W.taken sink.old) (W.taken sink.new) (W.fault_count sink.old) (W.fault_count sink.new)) }
+    ensures done { result ≡ 0 → Reads (Serves ((r : H.Region) → is_some (H.Region.device r).content ≡ true) (λ j. H.never_fails shelf.now (node_id j)) purpose (TakesAll (W.taken sink.old) (W.taken sink.new))) (S.left source.old) (S.left source.new) }
+    ensures refused { result ≡ 3
+        → RefusesText (S.left source.old) (S.left source.new) (TakesLine (W.taken sink.old) (W.taken sink.new) (W.fault_count sink.old) (W.fault_count sink.new))
+        ⊎ Reads (RefusesPlan purpose (TakesLine (W.taken sink.old) (W.taken sink.new) (W.fault_count sink.old) (W.fault_count sink.new))) (S.left source.old) (S.left source.new) }
     ensures source_failed { result ≡ 4 → Rose (S.fault_count source.old) (S.fault_count source.new) }
     ensures sink_failed { result ≡ 5 → Rose (W.fault_count sink.old) (W.fault_count sink.new) }
-    ensures front { result ≡ 5 → Replays ((r : H.Region) → is_some (H.Region.device r).content ≡ true) (λ j. H.never_fails shelf.now (node_id j)) (S.left source.old) (S.left source.new) (TakesFront (W.taken sink.old) (W.taken sink.new)) }
+    ensures front { result ≡ 5 → Reads (Serves ((r : H.Region) → is_some (H.Region.device r).content ≡ true) (λ j. H.never_fails shelf.now (node_id j)) purpose (TakesFront (W.taken sink.old) (W.taken sink.new))) (S.left source.old) (S.left source.new) }
     ensures nothing { (result ≡ 4) ⊎ (result ≡ 6) → (W.taken sink.new ≡ W.taken sink.old) × (W.fault_count sink.new ≡ W.fault_count sink.old) }
     ensures statuses { (result ≡ 0) ⊎ ((result ≡ 3) ⊎ ((result ≡ 4) ⊎ ((result ≡ 5) ⊎ (result ≡ 6)))) }
 {
@@ -108,26 +177,35 @@ fn replay_text<S: Source, W: Sink, H: Shelf>(
         Err(InputError::Failed) => return SOURCE_FAILED,
         Err(InputError::Memory) => return NO_MEMORY,
     };
-    if LIMIT < text.len() {
-        refuse(sink, b"line 0: toolong\n");
-        return REFUSED;
-    }
     match Scenario::read(alloc, text.as_slice()) {
-        Ok(scenario) => replay(alloc, &scenario, shelf, sink),
+        Ok(scenario) => serve(alloc, purpose, &scenario, shelf, sink),
         Err(ScenarioError::OutOfMemory) => NO_MEMORY,
-        Err(ScenarioError::Refused { line: _, why: _ }) => {
-            refuse(sink, b"line 0: notbuilt\n");
+        Err(ScenarioError::Refused { line, why }) => {
+            refuse_text(sink, line, why);
             REFUSED
         }
     }
 }
 
+/// Prints the coefficients of a code.
+fn print_code<W: Sink>(sink: &mut W, code: &Code) -> u8
+    ensures done { result ≡ 0 → TakesAll (W.taken sink.old) (W.taken sink.new) (coefficients_text code.now.n code.now.k) }
+    ensures failed { result ≡ 5 → Rose (W.fault_count sink.old) (W.fault_count sink.new) }
+    ensures front { result ≡ 5 → TakesFront (W.taken sink.old) (W.taken sink.new) (coefficients_text code.now.n code.now.k) }
+    ensures statuses { (result ≡ 0) ⊎ (result ≡ 5) }
+{
+    match coding::print(sink, code) {
+        Ok(_) => DONE,
+        Err(_) => SINK_FAILED,
+    }
+}
+
 /// Does all that the program does, over regions of this shelf: `words` are those after its name. It always returns.
 ///
-/// The status is 0 where the bytes of the source are the text of a scenario that is built so far and the text of its replay
-/// was taken whole; 2 exactly where the words are not `replay` alone; 3 where the bytes are no such text, or too many; 4 only
-/// where the source failed; 5 only where the sink failed, which took a front of the text; 6 for want of memory, before the
-/// first call is made.
+/// The status is 0 where the command of the words was done and its text was taken whole; 2 exactly where the words are no
+/// command; 3 where the bytes of the source are not the text of a scenario, or too many, or where one that isn't built so far is
+/// to be replayed; 4 only where the source failed; 5 only where the sink failed, which took a front of the text; 6 for want of memory, before the first call of
+/// a replay is made. `code` ends with 0 or 5. The source is as it was after `code`, and where the words are no command.
 pub fn tool<S: Source, W: Sink, H: Shelf + Drop>(
     alloc: Global,
     words: &[String],
@@ -135,22 +213,32 @@ pub fn tool<S: Source, W: Sink, H: Shelf + Drop>(
     sink: &mut W,
     shelf: H,
 ) -> u8
-    ensures done { result ≡ 0 → Replays ((r : H.Region) → is_some (H.Region.device r).content ≡ true) (λ j. H.never_fails shelf (node_id j)) (S.left source.old) (S.left source.new) (TakesAll (W.taken sink.old) (W.taken sink.new)) }
+    ensures done { (c : _) → command_of (map (λ w. string_bytes w) words.now) ≡ Some c
+        → result ≡ 0 → Does ((r : H.Region) → is_some (H.Region.device r).content ≡ true) (λ j. H.never_fails shelf (node_id j)) c (S.left source.old) (S.left source.new) (TakesAll (W.taken sink.old) (W.taken sink.new)) }
 
-    ensures words { (result ≡ 2) ↔ (IsReplay (map (λ w. string_bytes w) words.now) → ⊥) }
+    ensures words { (result ≡ 2) ↔ (command_of (map (λ w. string_bytes w) words.now) ≡ None) }
     ensures words_line { result ≡ 2 → TakesLine (W.taken sink.old) (W.taken sink.new) (W.fault_count sink.old) (W.fault_count sink.new) (codes "words\n") }
 
-    ensures refused { result ≡ 3 → RefusesText (S.left source.old) (S.left source.new) (TakesLine (W.taken sink.old) (W.taken sink.new) (W.fault_count sink.old) (W.fault_count sink.new)) }
+    ensures refused { (c : _) → command_of (map (λ w. string_bytes w) words.now) ≡ Some c
+        → result ≡ 3 → Refuses c (S.left source.old) (S.left source.new) (TakesLine (W.taken sink.old) (W.taken sink.new) (W.fault_count sink.old) (W.fault_count sink.new)) }
 
     ensures source_failed { result ≡ 4 → Rose (S.fault_count source.old) (S.fault_count source.new) }
     ensures sink_failed { result ≡ 5 → Rose (W.fault_count sink.old) (W.fault_count sink.new) }
-    ensures front { result ≡ 5 → Replays ((r : H.Region) → is_some (H.Region.device r).content ≡ true) (λ j. H.never_fails shelf (node_id j)) (S.left source.old) (S.left source.new) (TakesFront (W.taken sink.old) (W.taken sink.new)) }
+    ensures front { (c : _) → command_of (map (λ w. string_bytes w) words.now) ≡ Some c
+        → result ≡ 5 → Does ((r : H.Region) → is_some (H.Region.device r).content ≡ true) (λ j. H.never_fails shelf (node_id j)) c (S.left source.old) (S.left source.new) (TakesFront (W.taken sink.old) (W.taken sink.new)) }
     ensures nothing { (result ≡ 4) ⊎ (result ≡ 6) → (W.taken sink.new ≡ W.taken sink.old) × (W.fault_count sink.new ≡ W.fault_count sink.old) }
+    ensures source { reads_source (command_of (map (λ w. string_bytes w) words.now)) ≡ false
+        → ((result ≡ 0) ⊎ ((result ≡ 2) ⊎ (result ≡ 5))) × ((S.left source.new ≡ S.left source.old) × (S.fault_count source.new ≡ S.fault_count source.old)) }
+    ensures complete { (c : _) → command_of (map (λ w. string_bytes w) words.now) ≡ Some c → CanServe c (S.left source.old)
+        → (Rose (S.fault_count source.old) (S.fault_count source.new) → ⊥) → (Rose (W.fault_count sink.old) (W.fault_count sink.new) → ⊥) → (result ≡ 0) ⊎ (result ≡ 6) }
     ensures statuses { (result ≡ 0) ⊎ ((result ≡ 2) ⊎ ((result ≡ 3) ⊎ ((result ≡ 4) ⊎ ((result ≡ 5) ⊎ (result ≡ 6))))) }
 {
-    if !is_replay(words) {
-        refuse(sink, b"words\n");
-        return BAD_WORDS;
+    match Command::of(words) {
+        Some(Command::Scenario(purpose)) => serve_text(alloc, purpose, source, sink, &shelf),
+        Some(Command::Code { n, k }) => print_code(sink, &Code::new(n, k)),
+        None => {
+            refuse(sink, b"words\n");
+            BAD_WORDS
+        }
     }
-    replay_text(alloc, source, sink, &shelf)
 }

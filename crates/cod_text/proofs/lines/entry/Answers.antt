@@ -3,9 +3,10 @@ use Rattle.std.proofs.lemmas.Result.{err_from_is_err_and}
 use Rattle.cod_types.specs.declared.call.Call.{Call}
 use Rattle.cod_types.specs.declared.call.Reply.{Reply}
 use Rattle.cod_scenario.specs.Plan.{Plan}
-use Rattle.cod_text.specs.Pieces.{spaced}
+use Rattle.cod_print.specs.Pieces.{spaced}
 use Rattle.cod_text.specs.Printed.{call_words, caller_word, cause_words, line_of, reply_words, segment_word}
-use Rattle.cod_text.proofs.Fronts.{front_of, front_behind, took_front, puts_behind, puts_same, line_parts, line_spaced}
+use Rattle.cod_print.proofs.Fronts.{front_of, front_behind, took_front, puts_behind, puts_same}
+use Rattle.cod_text.proofs.Spacing.{line_parts, line_spaced}
 use Rattle.cod_text.proofs.lines.entry.Goals as goal
 
 -- what stands before the call, without the stamp

@@ -1,7 +1,8 @@
 use Rattle.std.proofs.Common.{◌++◌, [], ◌∷◌, ap, List, ℕ, decimal, slice_index_or}
-use Rattle.cod_text.specs.Pieces.{piece_text}
+use Rattle.cod_print.specs.Pieces.{piece_text}
 use Rattle.cod_text.specs.Printed.{caller_word}
-use Rattle.cod_text.proofs.Fronts.{two_joined, puts_same}
+use Rattle.cod_print.proofs.Fronts.{puts_same}
+use Rattle.cod_text.proofs.Spacing.{two_joined}
 use Rattle.cod_text.proofs.lines.head.Goals as goal
 
 pub returns-clause-text : goal.returns-clause-text

@@ -3,9 +3,10 @@ use Rattle.std.proofs.lemmas.List.{append-nil}
 use Rattle.std.proofs.lemmas.Result.{err_from_is_err_and}
 use Rattle.cod_types.specs.declared.layout.LayoutLine.{LayoutLine}
 use Rattle.cod_scenario.specs.Plan.{Plan}
-use Rattle.cod_text.specs.Pieces.{spaced}
+use Rattle.cod_print.specs.Pieces.{spaced}
 use Rattle.cod_text.specs.Printed.{layout_text, parity_words, segment_word, state_word}
-use Rattle.cod_text.proofs.Fronts.{front_of, took_front, puts_behind, puts_same, line_parts}
+use Rattle.cod_print.proofs.Fronts.{front_of, took_front, puts_behind, puts_same}
+use Rattle.cod_text.proofs.Spacing.{line_parts}
 use Rattle.cod_text.proofs.lines.layout.Goals as goal
 
 -- what every column's line begins with, and what it ends with

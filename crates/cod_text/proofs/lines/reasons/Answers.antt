@@ -3,7 +3,7 @@ use Rattle.std.proofs.lemmas.Result.{err_from_is_err_and}
 use Rattle.std.specs.List.{flat_map}
 use Rattle.cod_types.specs.declared.reasons.Reason.{Reason}
 use Rattle.cod_text.specs.Printed.{reason_word}
-use Rattle.cod_text.proofs.Fronts.{took_front, flat_map_split}
+use Rattle.cod_print.proofs.Fronts.{took_front, flat_map_split}
 use Rattle.cod_text.proofs.lines.reasons.Goals as goal
 
 pub returns-in_err-reason-clause-text : goal.returns-in_err-reason-clause-text

@@ -1,8 +1,9 @@
 use Rattle.std.proofs.Common.{codes, map}
 use Rattle.std.proofs.lemmas.Result.{err_from_is_err_and}
-use Rattle.cod_text.specs.Pieces.{spaced}
+use Rattle.cod_print.specs.Pieces.{spaced}
 use Rattle.cod_text.specs.Printed.{reason_word}
-use Rattle.cod_text.proofs.Fronts.{took_first, puts_behind, reasons_spaced}
+use Rattle.cod_print.proofs.Fronts.{took_first, puts_behind}
+use Rattle.cod_text.proofs.Spacing.{reasons_spaced}
 use Rattle.cod_text.proofs.lines.reply.Goals as goal
 
 pub returns-in_err-text-in-NoSpare-clause-text : goal.returns-in_err-text-in-NoSpare-clause-text

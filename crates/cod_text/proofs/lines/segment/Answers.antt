@@ -5,16 +5,9 @@ use Rattle.std.proofs.lemmas.List.Concat.{flat_map-append}
 use Rattle.cod_chronicle.specs.declared.entry.Entry.{Entry}
 use Rattle.cod_chronicle.specs.Order.{place}
 use Rattle.cod_text.specs.Printed.{line_text}
-use Rattle.cod_text.proofs.Fronts.{took_front, took_more, flat_map_next}
+use Rattle.cod_print.proofs.Fronts.{took_front, took_more, flat_map_next, one_done, text_more}
 use Rattle.std.proofs.lemmas.Result.{err_from_is_err_and}
 use Rattle.cod_text.proofs.lines.segment.Goals as goal
-
--- the list after one more element of it
-one_done : {X : Type 0} (all done rest more : List X) (e : X) → all ≡ done ++ rest → rest ≡ e ∷ more → all ≡ (done ++ e ∷ []) ++ more
-one_done all done rest more e h k = h ∙ ap (λ (l : List _). done ++ l) k ∙ sym (append_assoc done (e ∷ []) more)
-
-text_more : {X : Type 0} (f : X → List ℕ) (done : List X) (e : X) → flat_map f (done ++ e ∷ []) ≡ flat_map f done ++ f e
-text_more f done e = flat_map-append f done (e ∷ []) ∙ ap (λ (l : List ℕ). flat_map f done ++ l) (append-nil (f e))
 
 pub loop-e-preserved : goal.loop-e-preserved
 loop-e-preserved g c =

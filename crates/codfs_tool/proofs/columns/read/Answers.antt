@@ -1,4 +1,4 @@
-use Rattle.std.proofs.Common.{◌≡◌, ◌+◌, ◌*◌, ◌<◌, length, map, get_or, Some, refl, sym, ap, ◌∙◌, arith, subst}
+use Rattle.std.proofs.Common.{◌≡◌, ℕ, false, ◌+◌, ◌*◌, ◌<◌, length, map, get_or, Some, refl, sym, ap, ◌∙◌, arith, subst}
 use Rattle.std.proofs.Math.Nat.{mul-le-mul_right}
 use Rattle.std.proofs.lemmas.List.{get_or-map, map-set, length-set, length-map}
 use Rattle.std.specs.Prelude.{OnErr}
@@ -7,6 +7,8 @@ use Rattle.cod_region.specs.Device.{Device}
 use Rattle.codfs_tool.specs.Blocks.{no_device, block_at, after_read}
 use Rattle.codfs_tool.proofs.Changes.{err_gives, ok_gives, changed_none, changed_more, breaks_at, read_keeps, next_size, same_twice, same_equal, after_any_read, read_done}
 use Rattle.codfs_tool.proofs.Parts.{read_none, read_block_more, read_all}
+use Rattle.codfs_tool.proofs.Counting.{called_until, read_calls, read_counts}
+use Rattle.codfs_tool.specs.Blocks.{meets}
 use Rattle.codfs_tool.proofs.columns.read.Goals as goal
 
 pub loop-column-init : goal.loop-column-init
@@ -72,3 +74,20 @@ loop-column-preserved g c =
 pub returns-clause-bytes : goal.returns-clause-bytes
 returns-clause-bytes g c = λ b size holds.
     read_all c.args.into.now c.loop-column.into b c.args.off c.args.block (length c.args.regions.now) c.loop-column.column (c.loop-column.invariant.bytes b size holds) (omega arith) size (omega (arith, size, c.requires.range))
+
+pub returns-then-is_err-clause-called : goal.returns-then-is_err-clause-called
+returns-then-is_err-clause-called g c =
+    let f = g.R.Region.device in
+    let ds = map f c.args.regions.now in
+    let col = c.loop-column.column in
+    let block = c.args.block in
+    let off = c.args.off in
+    let n = length c.args.into.now in
+    let lt : col < length ds = omega (arith, length-map c.args.regions.now f) in
+    let here = get_or-map f c.loop-column.regions col c.index-regions-column.result no_device (omega arith) in
+    let size = ap (λ (d : Device). d.size) (sym here) ∙ next_size (after_read block off n) block col ds _ c.requires.sized c.loop-column.invariant.changed lt in
+    let before : Device = f (get_or c.loop-column.regions col c.index-regions-column.result) in
+    let k = read_counts before (f c.read_part.new.region) (meets before.size off n (col * block)) (meets block off n (col * block)) (rw c.loop-column.invariant.same at c.read_part.ensures.same) (ap (λ (m : ℕ). meets m off n (col * block)) size) in
+    rw (map-set f c.loop-column.regions col c.read_part.new.region)
+    (called_until (λ j. meets block off n (j * block)) (λ j. false) (after_read block off n) col ds (map f c.loop-column.regions) (f c.read_part.new.region) (read_calls block off n)
+    c.loop-column.invariant.changed lt (rw (← here) at k.0) (rw (← here) at k.1))

@@ -4,8 +4,8 @@ use Rattle.std.specs.Option.{is_some}
 use Rattle.std.specs.Io.KnownBytes.{append_known}
 use Rattle.std.proofs.lemmas.Result.{err_from_is_err_and}
 use Rattle.std.proofs.lemmas.List.{get_or-map}
-use Rattle.cod_text.proofs.Fronts.{took_front, took_more}
-use Rattle.cod_text.specs.Puts.{TakesFront}
+use Rattle.cod_print.proofs.Fronts.{took_front, took_more}
+use Rattle.cod_print.specs.Puts.{TakesFront}
 use Rattle.codfs_tool.specs.Blocks.{no_device, device_at}
 use Rattle.codfs_tool.specs.Lines.{device_text}
 use Rattle.codfs_tool.proofs.Texts.{texts_split, texts_more}

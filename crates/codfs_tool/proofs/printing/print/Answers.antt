@@ -4,9 +4,9 @@ use Rattle.std.specs.Option.{is_some}
 use Rattle.std.proofs.lemmas.Result.{err_from_is_err_and}
 use Rattle.cod_chronicle.specs.Order.{place}
 use Rattle.cod_text.specs.Printed.{line_text}
-use Rattle.cod_text.proofs.Fronts.{front_of, took_front, puts_behind}
+use Rattle.cod_print.proofs.Fronts.{front_of, took_front, puts_behind}
 use Rattle.codfs_tool.specs.Lines.{devices_text}
-use Rattle.codfs_tool.specs.Replays.{nodes_text}
+use Rattle.codfs_tool.specs.Planned.{nodes_text}
 use Rattle.codfs_tool.proofs.printing.print.Goals as goal
 
 pub returns-in_err-segment-clause-text : goal.returns-in_err-segment-clause-text
@@ -36,4 +36,4 @@ returns-clause-text g c =
     let first = flat_map (λ e. line_text x (place 0 e)) s.chronicle in
     let mid = devices_text x (map f c.deref.result.now) (map is_some c.deref-2.result.now) (length c.deref.result.now) in
     rw (← c.deref.ensures.value, ← c.deref-2.ensures.value)
-    (puts_behind c.nodes.result _ _ _ first (mid ++ nodes_text x) c.in_ok-segment.ensures.text (puts_behind c.nodes.result _ _ _ mid (nodes_text x) c.in_ok-columns.ensures.text c.nodes.ensures.text))
+    (puts_behind c.node_lines.result _ _ _ first (mid ++ nodes_text x) c.in_ok-segment.ensures.text (puts_behind c.node_lines.result _ _ _ mid (nodes_text x) c.in_ok-columns.ensures.text c.node_lines.ensures.text))

@@ -3,6 +3,7 @@ use Rattle.std.specs.Option.{is_some}
 use Rattle.std.proofs.lemmas.List.{append-nil}
 use Rattle.cod_types.specs.Limits.{Shape}
 use Rattle.cod_scenario.specs.Plan.{Ask}
+use Rattle.codfs_tool.specs.Counts.{Counts}
 use Rattle.codfs_tool.specs.Ready.{AreReady, asks_of}
 use Rattle.codfs_tool.specs.Standing.{Standing, asked_of, ask}
 use Rattle.codfs_tool.proofs.Slips.{none_left}
@@ -38,6 +39,10 @@ slips-preserved g c =
             (subst (λ (n : ℕ). Standing r.0 r.1 new.geometry n (map f new.regions.items) (map is_some new.marks.items) new.lost new.chronicle (asked ++ ask slip.call ∷ [])) (sym nodes)
             (subst (λ (s : Shape). Standing r.0 r.1 s old.nodes (map f new.regions.items) (map is_some new.marks.items) new.lost new.chronicle (asked ++ ask slip.call ∷ [])) (sym shape) after)),
       );
+      counts = λ k.
+          let same : old.geometry.block ≡ c.args.segment.now.geometry.block = ap (λ (s : Shape). s.block) i.geometry in
+          let before = subst (λ (b : ℕ). Counts old.lost b (map f old.regions.items) old.chronicle) (sym same) (i.counts k) in
+          subst (λ (b : ℕ). Counts new.lost b (map f new.regions.items) new.chronicle) same (c.call.ensures.counts before);
       stands = λ told sure s.
           let d = i.stands told sure s in
           let before = subst (λ (n : ℕ). Standing told sure old.geometry n (map f old.regions.items) (map is_some old.marks.items) old.lost old.chronicle d.0) (sym i.nodes)

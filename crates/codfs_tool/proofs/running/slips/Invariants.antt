@@ -1,4 +1,4 @@
-use Rattle.std.proofs.Common.{◌≡◌, ◌≤◌, length, take}
+use Rattle.std.proofs.Common.{◌≡◌, take}
 use Rattle.cod_scenario.specs.Plan.{asks}
 use Rattle.codfs_tool.specs.Ready.{AreReady, asks_of}
 use Rattle.codfs_tool.proofs.running.slips.Given as goal
@@ -7,5 +7,4 @@ abbrev pub invariant-loop-line : goal.invariant-loop-line
 invariant-loop-line l = record {
   calls : asks_of l.slips.items ≡ asks (take l.line-index l.lines);
   ready : AreReady l.g l.slips.items;
-  count : length l.slips.items ≤ l.line-index;
 }

@@ -2,10 +2,11 @@ use Rattle.std.proofs.Common.{ℕ, Bool, length, map, refl, sym, ◌∙◌, arit
 use Rattle.std.specs.Option.{is_some}
 use Rattle.std.proofs.lemmas.List.{length-map}
 use Rattle.cod_chronicle.specs.Legal.{node_id}
-use Rattle.cod_text.specs.Puts.{TakesFront}
+use Rattle.cod_print.specs.Puts.{TakesFront}
 use Rattle.cod_scenario.specs.Owed.{owed}
 use Rattle.codfs_tool.specs.Replays.{TakesAll}
 use Rattle.codfs_tool.proofs.Final.{ran}
+use Rattle.codfs_tool.proofs.Fits.{one_if}
 use Rattle.codfs_tool.proofs.top.replay.Goals as goal
 
 pub print-requires-clause-few : goal.print-requires-clause-few
@@ -29,7 +30,7 @@ returns-in-Ok-print-clause-done g c = λ _.
     let never : ℕ → Bool = λ j. g.H.Shelf.never_fails c.args.shelf.now (node_id j) in
     let count = sym (length-map seg.regions.items f) ∙ r.stands.count in
     ran _ (TakesAll (g.W.Sink.taken c.args.sink.now) (g.W.Sink.taken c.print.new.sink)) r.told never x (map f seg.regions.items) (map is_some seg.marks.items) seg.lost seg.chronicle (owed x 0) (length seg.regions.items)
-    c.requires r.telling r.stands refl count c.in-Ok-print.ensures.text
+    (one_if x c.requires.built) r.telling r.stands r.counts refl count c.in-Ok-print.ensures.text
 
 pub returns-in-Ok-clause-front : goal.returns-in-Ok-clause-front
 returns-in-Ok-clause-front g c = λ _.
@@ -40,4 +41,7 @@ returns-in-Ok-clause-front g c = λ _.
     let never : ℕ → Bool = λ j. g.H.Shelf.never_fails c.args.shelf.now (node_id j) in
     let count = sym (length-map seg.regions.items f) ∙ r.stands.count in
     ran _ (TakesFront (g.W.Sink.taken c.args.sink.now) (g.W.Sink.taken c.print.new.sink)) r.told never x (map f seg.regions.items) (map is_some seg.marks.items) seg.lost seg.chronicle (owed x 0) (length seg.regions.items)
-    c.requires r.telling r.stands refl count c.in-Err-print.ensures.text
+    (one_if x c.requires.built) r.telling r.stands r.counts refl count c.in-Err-print.ensures.text
+
+pub print-requires-clause-there : goal.print-requires-clause-there
+print-requires-clause-there g c = omega (arith, (one_if c.args.scenario.now c.requires.built).segment)

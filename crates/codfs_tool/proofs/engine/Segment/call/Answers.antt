@@ -2,6 +2,7 @@ use Rattle.std.proofs.Common.{◌≡◌, ℕ, ◌+◌, ◌++◌, ◌∷◌, [], 
 use Rattle.cod_chronicle.specs.declared.entry.Entry.{Entry}
 use Rattle.std.specs.Option.{is_some}
 use Rattle.cod_chronicle.specs.Said.{clock_of, numbers_by}
+use Rattle.codfs_tool.specs.Counts.{Counts}
 use Rattle.codfs_tool.specs.Standing.{Standing, entered, ask, asked_of}
 use Rattle.codfs_tool.proofs.Steps.{clock_before, number_follows}
 use Rattle.codfs_tool.proofs.engine.Segment.call.Goals as goal
@@ -31,3 +32,9 @@ returns-clause-stands g c = λ told sure asked s.
     c.push_link.ensures ∙ ap (λ (n : ℕ). h ++ entered n (c.clock-stamp.result + 1) call reply ∷ []) number
     ∙ ap (λ (t : ℕ). h ++ entered (length asked) (t + 1) call reply ∷ []) c.clock-stamp.ensures.value in
     subst (λ (k : List Entry). Standing told sure c.args.self.now.geometry c.args.self.now.nodes (map g.R.Region.device c.reply-reply.new.self.regions.items) (map is_some c.reply-reply.new.self.marks.items) c.reply-reply.new.self.lost k (asked ++ ask call ∷ [])) (sym is) after
+
+pub returns-clause-counts : goal.returns-clause-counts
+returns-clause-counts g c = λ k.
+    let h = c.reply-reply.new.self.chronicle in
+    subst (λ (l : List Entry). Counts c.reply-reply.new.self.lost c.args.self.now.geometry.block (map g.R.Region.device c.reply-reply.new.self.regions.items) l) (sym c.push_link.ensures)
+    (c.reply-reply.ensures.counts c.args.number (c.clock-stamp.result + 1) k)

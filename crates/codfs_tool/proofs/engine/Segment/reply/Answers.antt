@@ -14,7 +14,9 @@ use Rattle.cod_chronicle.proofs.Legality.{refusal_refuses, not_over-none}
 use Rattle.cod_chronicle.proofs.Bytes_kept.{keeps_length}
 use Rattle.codfs_tool.specs.Blocks.{device_at, AreChanged, Breaks, HoldBlocks}
 use Rattle.codfs_tool.specs.Serving.{served}
-use Rattle.codfs_tool.specs.Standing.{Standing}
+use Rattle.codfs_tool.specs.Counts.{Counts, IsStopped}
+use Rattle.codfs_tool.specs.Standing.{Standing, entered}
+use Rattle.codfs_tool.proofs.Counting.{counts_refused, counts_served, counts_failed, served_called}
 use Rattle.codfs_tool.proofs.Changes.{each_device, given_back}
 use Rattle.codfs_tool.proofs.Steps.{standing_refused, standing_served, standing_broken, clock_is_count, inside_if_fine, served_plain}
 use Rattle.codfs_tool.proofs.engine.Segment.reply.Goals as goal
@@ -121,3 +123,47 @@ mark_down-requires-clause-linked g c =
     let same = length-map c.deref_mut.result.now f in
     ap (λ (l : List (Option (Unit {0}))). get_or (map is_some l) col false) c.deref_mut-in-Err.ensures.value
     ∙ s.unmarked_live col (omega (arith, count, kept, column, same, s.count)) ∙ ap not (s.live c.if-self.false col)
+
+pub returns-in-Some-clause-counts : goal.returns-in-Some-clause-counts
+returns-in-Some-clause-counts g c = λ number stamp k.
+    let call = c.args.call.now in
+    let shape = c.args.self.now.geometry in
+    let is : refusal shape call ≡ Some c.in-Some.refused = sym c.refusal.ensures ∙ c.in-Some.is in
+    counts_refused _ _ _ _ number stamp call c.in-Some.refused k (refusal_refuses shape call c.in-Some.refused is)
+
+pub returns-then-self-clause-counts : goal.returns-then-self-clause-counts
+returns-then-self-clause-counts g c = λ number stamp k. counts_refused _ _ _ _ number stamp c.args.call.now Lost k refl
+
+pub returns-in-Ok-clause-counts : goal.returns-in-Ok-clause-counts
+returns-in-Ok-clause-counts g c = λ number stamp k.
+    let f = g.R.Region.device in
+    let call = c.args.call.now in
+    let shape = c.args.self.now.geometry in
+    let ds = map f c.args.self.now.regions.items in
+    let ds' = map f c.serve.new.regions in
+    let items = c.deref_mut.ensures.value in
+    let back = given_back c.serve.new.regions c.args.self.now.regions.items c.args.self.now.regions.len (omega (arith, c.deref_mut.ensures.len, c.serve.auto.regions)) in
+    let first = subst (λ (l : List g.row.R.Denot). AreChanged (served c.block-block.result call) (length l) (map f l) ds') items c.in-Ok.ensures.done in
+    let second = subst (λ (b : ℕ). AreChanged (served b call) (length c.args.self.now.regions.items) ds ds') c.block-block.ensures first in
+    let changed = subst (λ (m : ℕ). AreChanged (served shape.block call) m ds ds') (sym (length-map c.args.self.now.regions.items f)) second in
+    rw back (counts_served _ shape.block ds ds' c.args.self.now.chronicle number stamp call c.in-Ok.reply k changed.size c.in-Ok.ensures.kept.0 (served_called shape.block call ds ds' changed))
+
+pub returns-in-Err-clause-counts : goal.returns-in-Err-clause-counts
+returns-in-Err-clause-counts g c = λ number stamp k.
+    let f = g.R.Region.device in
+    let call = c.args.call.now in
+    let h = c.args.self.now.chronicle in
+    let shape = c.args.self.now.geometry in
+    let col = c.in-Err.column in
+    let ds = map f c.args.self.now.regions.items in
+    let ds' = map f c.serve.new.regions in
+    let items = c.deref_mut.ensures.value in
+    let breaks : Breaks col ds ds' = subst (λ (l : List g.row.R.Denot). Breaks col (map f l) ds') items c.in-Err.ensures.failed in
+    let first = subst (λ (l : List g.row.R.Denot). IsStopped c.block-block.result call col (map f l) ds') items c.in-Err.ensures.called in
+    let stopped : IsStopped shape.block call col ds ds' = subst (λ (b : ℕ). IsStopped b call col ds ds') c.block-block.ensures first in
+    let back = given_back c.serve.new.regions c.args.self.now.regions.items c.args.self.now.regions.len (omega (arith, c.deref_mut.ensures.len, c.serve.auto.regions)) in
+    let seen : c.deref.result.now ≡ c.serve.new.regions = c.deref.ensures.value ∙ back in
+    let entered_is : c.mark_down.new.chronicle ≡ h ++ Down (clock_of h + 1) col (node_id col) (Fault (device_at ds' col).faults) ∷ [] =
+    c.mark_down.ensures.entered ∙ ap (λ (l : List g.row.R.Denot). h ++ Down (clock_of h + 1) col (node_id col) (Fault (device_at (map f l) col).faults) ∷ []) seen in
+    let counts = counts_failed _ shape.block ds ds' h stopped.0 (clock_of h + 1) col (node_id col) (Fault (device_at ds' col).faults) number stamp call Lost k c.if-self.false breaks.size stopped.1 in
+    rw back (subst (λ (l : List Entry). Counts true shape.block ds' (l ++ entered number stamp call Lost ∷ [])) (sym entered_is) counts)

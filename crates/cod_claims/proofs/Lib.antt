@@ -1,0 +1,5 @@
+pub mod Finding
+pub mod Claiming
+pub mod Preparing
+pub mod Joining
+pub mod Opening

@@ -1,0 +1,16 @@
+//! The claims of callers to the blocks of a segment, and the memory of a call, all of which is taken before the call begins.
+#![tactic(auto)]
+
+mod claim;
+mod claims;
+mod delta;
+pub mod laws;
+mod refusing;
+mod slip;
+
+pub use claims::{Claims, Held};
+pub use refusing::refusal;
+pub use slip::Slip;
+
+#[cfg(test)]
+mod tests;

@@ -1,0 +1,10 @@
+//! A data column: one block of a segment, on a region.
+#![tactic(auto)]
+
+mod column;
+pub mod laws;
+
+pub use column::DataColumn;
+
+#[cfg(test)]
+mod tests;

@@ -1,0 +1,16 @@
+pub mod Adding
+pub mod Appending
+pub mod Buffers
+pub mod Calling
+pub mod Committing
+pub mod Holding
+pub mod Lowest
+pub mod Meaning
+pub mod Pieces
+pub mod Ranging
+pub mod Records
+pub mod Rooms
+pub mod Scan
+pub mod Spelled
+pub mod Ticking
+pub mod Unique

@@ -1,0 +1,5 @@
+pub mod Log
+pub mod State
+pub mod Calls
+pub mod Held
+pub mod Laws

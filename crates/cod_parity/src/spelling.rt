@@ -1,0 +1,41 @@
+//! The text of a record that is to be appended.
+ghost use Rattle.std.specs.Prelude.{◌≡◌, ◌+◌, ◌<◌, ◌≤◌, ◌^◌, ◌++◌, length, take};
+ghost use Rattle.cod_record.specs.declared.parts.Head.{Head};
+ghost use Rattle.cod_record.specs.Record.{IsRecord};
+ghost use Rattle.cod_parity.specs.Log.{logged, logged_length, text};
+
+use cod_record::{Head, sparse_len, write_head, write_sparse};
+
+/// How many bytes the text has of a record of these bytes, whatever their place.
+pub fn text_len(version: u8, bytes: &[u8]) -> u32
+    requires most { length bytes.now ≤ 2 ^ 20 }
+    requires short { version ≡ 2 → length bytes.now ≤ 65536 }
+    ensures { (h : Head) → result ≡ logged_length version h bytes.now }
+{
+    if version == 2 {
+        return sparse_len(bytes);
+    }
+    19 + bytes.len() as u32
+}
+
+/// Writes the text of the record of these bytes to the front, and answers its length.
+pub fn write_text(version: u8, head: Head, bytes: &[u8], into: &mut [u8]) -> u32
+    requires first { 1 ≤ version }
+    requires last { version ≤ 2 }
+    requires len { head.len ≡ length bytes.now }
+    requires fits { head.off + head.len ≤ 2 ^ 20 }
+    requires short { version ≡ 2 → head.len ≤ 65536 }
+    requires room { 19 + head.len ≤ length into.old }
+    requires more { version ≡ 2 → 21 + head.len ≤ length into.old }
+    ensures len { result ≡ length (text (logged version head bytes.now)) }
+    ensures front { take result into.new ≡ text (logged version head bytes.now) }
+    ensures within { result ≤ length into.old }
+    ensures record { IsRecord version (logged version head bytes.now).whole (text (logged version head bytes.now)) }
+{
+    if version == 2 {
+        return write_sparse(head.block, head.number, head.off, bytes, into);
+    }
+    write_head(head, into);
+    into[19..19 + bytes.len()].copy_from_slice(bytes);
+    19 + head.len
+}

@@ -1,0 +1,372 @@
+-- What the words of an accepted line give.
+use Rattle.std.proofs.Common.{◌≡◌, ℕ, ◌<◌, ◌≤◌, Bool, true, false, List, [], ◌∷◌, length, refl, arith, Result, Ok, Err, Option, Some, None, not, min}
+use Rattle.std.specs.Prelude.{nat_le, nat_lt, ◌&&◌, IfOk}
+use Rattle.std.specs.List.{All, list_any, position}
+use Rattle.std.specs.Str.{bytes_eq}
+use Rattle.std.proofs.lemmas.Bool.{leb-true, ltb-true, false≢true}
+use Rattle.std.proofs.lemmas.List.Elements.{All-nil, All-cons}
+use Rattle.std.proofs.lemmas.List.Quantifiers.{position-Some}
+use Rattle.cod_words.specs.Words.{is_name}
+use Rattle.cod_types.specs.declared.call.Call.{Call}
+use Rattle.cod_types.specs.declared.call.Call.TheVariants as calls
+use Rattle.cod_scenario.specs.declared.line.What.{What}
+use Rattle.cod_scenario.specs.declared.refusal.Refusal.{Refusal}
+use Rattle.cod_scenario.specs.declared.refusal.Refusal.TheVariants as why
+use Rattle.cod_scenario.specs.declared.said.Header.{Header}
+use Rattle.cod_scenario.specs.declared.said.Said.{Said}
+use Rattle.cod_scenario.specs.declared.said.Said.TheVariants as said
+use Rattle.cod_scenario.specs.declared.said.Keyword.{Keyword}
+use Rattle.cod_scenario.specs.declared.said.Keyword.TheVariants as key
+use Rattle.cod_scenario.specs.declared.said.Verb.{Verb}
+use Rattle.cod_scenario.specs.declared.said.Verb.TheVariants as verb
+use Rattle.cod_scenario.specs.Judge.{◌>>=◌, wants, found, number, field, known, each_known, node, data_word, word, counted, codfs_line, nodes_line, code_line, only_field, field_line, new_name, added_name, segment_line, client_line, read_line, write_line, swap_line, put_line, plain_line, drain_line, fail_line, care_line, schedule_line, end_line, what_says, does_line, rest_says, words_mean, may_follow, last_of, is_end, keyword_of}
+use Rattle.cod_scenario.specs.Sound.{IsThere, NamesNode}
+use Rattle.cod_scenario.specs.Lines.{Parts, header_of, parts_of, segments_of, clients_of, bytes_of, floor_of}
+use Rattle.cod_scenario.specs.Reading.{Accepts, HasSome, place_of}
+
+-- ---- sequences
+
+pub bind : {A B : Type 0} (r : Result A Refusal) (f : A → Result B Refusal) (Q : A → Type 0) (P : B → Type 0)
+    → IfOk r Q → ((x : A) → Q x → IfOk (f x) P) → IfOk (r >>= f) P
+bind (Ok x) f Q P q h = h x q
+bind (Err w) f Q P q h = tt
+
+-- whatever it gives
+abbrev pub Any : {A : Type 0} → A → Type 0
+Any x = Unit {0}
+
+pub any : {A : Type 0} (r : Result A Refusal) → IfOk r Any
+any (Ok x) = tt
+any (Err w) = tt
+
+pub wanted : (b : Bool) (w : Refusal) → IfOk (wants b w) (λ _. b ≡ true)
+wanted true w = refl
+wanted false w = tt
+
+and_left : (a b : Bool) → (a && b) ≡ true → a ≡ true
+and_left true b e = refl
+and_left false b e = e
+
+and_right : (a b : Bool) → (a && b) ≡ true → b ≡ true
+and_right true b e = e
+and_right false b e = absurd (false≢true e)
+
+-- ---- words
+
+pub field_in : (low high : ℕ) (w : List ℕ) → IfOk (field low high w) (λ v. (low ≤ v) × (v ≤ high))
+unfolding field
+field_in low high w =
+    bind (number w) _ Any (λ v. (low ≤ v) × (v ≤ high)) (any (number w)) (λ v _.
+    bind (wants (nat_le low v && nat_le v high) why.Field) _ (λ _. (nat_le low v && nat_le v high) ≡ true) (λ v. (low ≤ v) × (v ≤ high))
+    (wanted _ why.Field) (λ u e. (leb-true low v (and_left _ _ e), leb-true v high (and_right _ _ e))))
+
+found_at : {A : Type 0} (o : Option A) (w : Refusal) (P : A → Type 0) → ((x : A) → o ≡ Some x → P x) → IfOk (found o w) P
+found_at (Some x) w P h = h x refl
+found_at None w P h = tt
+
+position_in : (p : List ℕ → Bool) (names : List (List ℕ)) (i : ℕ) → position p names ≡ Some i → i < length names
+position_in p names i e = (position-Some p names i [] e).0
+
+pub known_in : (names : List (List ℕ)) (w : List ℕ) → IfOk (known names w) (λ i. i < length names)
+unfolding known
+known_in names w =
+    bind (wants (is_name w) why.Name) _ Any (λ i. i < length names) (any (wants (is_name w) why.Name)) (λ u _.
+    found_at (position (bytes_eq w) names) why.Unknown (λ i. i < length names) (position_in (bytes_eq w) names))
+
+pub each_in : (names ws : List (List ℕ)) → IfOk (each_known names ws) (All (λ i. i < length names))
+unfolding each_known
+each_in names [] = All-nil (λ i. i < length names)
+each_in names (w ∷ ws) =
+    bind (known names w) _ (λ i. i < length names) (All (λ i. i < length names)) (known_in names w) (λ i lt.
+    bind (each_known names ws) _ (All (λ i. i < length names)) (All (λ i. i < length names)) (each_in names ws) (λ is all. All-cons (λ i. i < length names) i is lt all))
+
+pub node_in : (nodes : ℕ) (w : List ℕ) → IfOk (node nodes w) (λ x. x < nodes)
+unfolding node
+node_in nodes w =
+    bind (number w) _ Any (λ x. x < nodes) (any (number w)) (λ v _.
+    bind (wants (nat_lt v nodes) why.Node) _ (λ _. nat_lt v nodes ≡ true) (λ x. x < nodes) (wanted _ why.Node) (λ u e. ltb-true v nodes e))
+
+-- ---- the order of the lines
+
+abbrev pub place_of_key : Keyword → ℕ
+place_of_key key.Codfs = 0
+place_of_key key.Nodes = 1
+place_of_key key.Code = 2
+place_of_key key.Block = 3
+place_of_key key.Update = 4
+place_of_key key.Reserve = 5
+place_of_key key.Unit = 6
+place_of_key key.Alpha = 7
+place_of_key _ = 8
+
+pub follows_place : (version : ℕ) (last : Option Said) (w : Keyword) → may_follow version last w ≡ true → place_of last ≡ place_of_key w
+unfolding may_follow
+follows_place version None key.Codfs e = refl
+follows_place version (Some (said.Codfs v)) key.Nodes e = refl
+follows_place version (Some (said.Nodes n cap)) key.Code e = refl
+follows_place version (Some (said.Code n k)) key.Block e = refl
+follows_place version (Some (said.Block b)) key.Update e = refl
+follows_place version (Some (said.Update u)) key.Reserve e = refl
+follows_place version (Some (said.Reserve r)) key.Unit e = refl
+follows_place version (Some (said.Unit x)) key.Alpha e = refl
+follows_place version (Some (said.Alpha a)) key.Segment e = refl
+follows_place version (Some (said.Segment name)) key.Segment e = refl
+follows_place version (Some (said.Segment name)) key.Client e = refl
+follows_place version (Some (said.Client name)) key.Client e = refl
+follows_place version (Some (said.Client name)) (key.Does v) e = refl
+follows_place version (Some (said.Client name)) key.Care e = refl
+follows_place version (Some (said.Client name)) key.Schedule e = refl
+follows_place version (Some (said.Client name)) key.End e = refl
+follows_place version (Some (said.Does line what)) key.Client e = refl
+follows_place version (Some (said.Does line what)) (key.Does v) e = refl
+follows_place version (Some (said.Does line what)) key.Care e = refl
+follows_place version (Some (said.Does line what)) key.Schedule e = refl
+follows_place version (Some (said.Does line what)) key.End e = refl
+follows_place version (Some (said.Care w r)) key.Schedule e = refl
+follows_place version (Some (said.Care w r)) key.End e = refl
+follows_place version (Some (said.Schedule t)) key.Schedule e = refl
+follows_place version (Some (said.Schedule t)) key.End e = refl
+follows_place version _ _ e = absurd (false≢true e)
+
+abbrev pub NeedsKey : Keyword → Parts → Type 0
+NeedsKey key.Client p = 1 ≤ length p.segments
+NeedsKey (key.Does v) p = (1 ≤ length p.segments) × (1 ≤ length p.clients)
+NeedsKey key.Care p = (1 ≤ length p.segments) × (1 ≤ length p.clients)
+NeedsKey key.Schedule p = (1 ≤ length p.segments) × (1 ≤ length p.clients)
+NeedsKey key.End p = (1 ≤ length p.segments) × (1 ≤ length p.clients)
+NeedsKey _ p = Unit {0}
+
+pub follows_needs : (version : ℕ) (last : Option Said) (w : Keyword) (p : Parts) → may_follow version last w ≡ true → HasSome last p → NeedsKey w p
+unfolding may_follow
+follows_needs version (Some (said.Segment name)) key.Client p e h = h
+follows_needs version (Some (said.Client name)) key.Client p e h = h.0
+follows_needs version (Some (said.Client name)) (key.Does v) p e h = h
+follows_needs version (Some (said.Client name)) key.Care p e h = h
+follows_needs version (Some (said.Client name)) key.Schedule p e h = h
+follows_needs version (Some (said.Client name)) key.End p e h = h
+follows_needs version (Some (said.Does line what)) key.Client p e h = h.0
+follows_needs version (Some (said.Does line what)) (key.Does v) p e h = h
+follows_needs version (Some (said.Does line what)) key.Care p e h = h
+follows_needs version (Some (said.Does line what)) key.Schedule p e h = h
+follows_needs version (Some (said.Does line what)) key.End p e h = h
+follows_needs version (Some (said.Care w r)) key.Schedule p e h = h
+follows_needs version (Some (said.Care w r)) key.End p e h = h
+follows_needs version (Some (said.Schedule t)) key.Schedule p e h = h
+follows_needs version (Some (said.Schedule t)) key.End p e h = h
+follows_needs version last key.Codfs p e h = tt
+follows_needs version last key.Nodes p e h = tt
+follows_needs version last key.Code p e h = tt
+follows_needs version last key.Block p e h = tt
+follows_needs version last key.Update p e h = tt
+follows_needs version last key.Reserve p e h = tt
+follows_needs version last key.Unit p e h = tt
+follows_needs version last key.Alpha p e h = tt
+follows_needs version last key.Segment p e h = tt
+follows_needs version _ _ p e h = absurd (false≢true e)
+
+-- ---- the lines
+
+-- the one number of a line
+only_in : (low high : ℕ) (ws : List (List ℕ)) → IfOk (only_field low high ws) (λ v. (low ≤ v) × (v ≤ high))
+unfolding only_field
+only_in low high ws =
+    bind (counted ws 1) _ Any (λ v. (low ≤ v) × (v ≤ high)) (any (counted ws 1)) (λ u _. field_in low high (word ws 0))
+
+field_line_in : (low high : ℕ) (is : ℕ → Said) (ws : List (List ℕ)) (P : Said → Type 0) → ((v : ℕ) → low ≤ v → v ≤ high → P (is v)) → IfOk (field_line low high is ws) P
+unfolding field_line
+field_line_in low high is ws P h = bind (only_field low high ws) _ (λ v. (low ≤ v) × (v ≤ high)) P (only_in low high ws) (λ v q. h v q.0 q.1)
+
+codfs_in : (ws : List (List ℕ)) (P : Said → Type 0) → ((v : ℕ) → 1 ≤ v → v ≤ 2 → P (said.Codfs v)) → IfOk (codfs_line ws) P
+unfolding codfs_line
+codfs_in ws P h =
+    bind (counted ws 1) _ Any P (any (counted ws 1)) (λ u _.
+    bind (field 1 2 (word ws 0)) _ (λ v. (1 ≤ v) × (v ≤ 2)) P (field_in 1 2 (word ws 0)) (λ v q. h v q.0 q.1))
+
+nodes_in : (ws : List (List ℕ)) (P : Said → Type 0) → ((nodes cap : ℕ) → 1 ≤ nodes → nodes ≤ 64 → 1 ≤ cap → P (said.Nodes nodes cap)) → IfOk (nodes_line ws) P
+unfolding nodes_line
+nodes_in ws P h =
+    bind (counted ws 2) _ Any P (any (counted ws 2)) (λ u _.
+    bind (field 1 64 (word ws 0)) _ (λ v. (1 ≤ v) × (v ≤ 64)) P (field_in 1 64 (word ws 0)) (λ nodes q.
+    bind (field 1 4294967295 (word ws 1)) _ (λ v. (1 ≤ v) × (v ≤ 4294967295)) P (field_in 1 4294967295 (word ws 1)) (λ cap r. h nodes cap q.0 q.1 r.0)))
+
+code_in : (hd : Header) (ws : List (List ℕ)) (P : Said → Type 0) → ((n k : ℕ) → 1 ≤ n → n ≤ 16 → n ≤ hd.nodes → 1 ≤ k → k ≤ n → P (said.Code n k)) → IfOk (code_line hd ws) P
+unfolding code_line
+code_in hd ws P h =
+    bind (counted ws 2) _ Any P (any (counted ws 2)) (λ u _.
+    bind (field 1 (min 16 hd.nodes) (word ws 0)) _ (λ v. (1 ≤ v) × (v ≤ min 16 hd.nodes)) P (field_in 1 (min 16 hd.nodes) (word ws 0)) (λ n q.
+    bind (field 1 n (word ws 1)) _ (λ v. (1 ≤ v) × (v ≤ n)) P (field_in 1 n (word ws 1)) (λ k r.
+    let most = q.1 in h n k q.0 (omega (arith, most)) (omega (arith, most)) r.0 r.1)))
+
+not_there : (b : Bool) → not b ≡ true → b ≡ false
+not_there true e = absurd (false≢true e)
+not_there false e = refl
+
+-- a new name
+abbrev IsNew : List (List ℕ) → List ℕ → Type 0
+IsNew names w = (is_name w ≡ true) × (list_any (bytes_eq w) names ≡ false)
+
+stronger : {A : Type 0} (r : Result A Refusal) (Q P : A → Type 0) → IfOk r Q → ((x : A) → Q x → P x) → IfOk r P
+stronger (Ok x) Q P q f = f x q
+stronger (Err e) Q P q f = tt
+
+new_in : (names : List (List ℕ)) (w : List ℕ) → IfOk (new_name names w) (λ _. IsNew names w)
+unfolding new_name
+new_in names w =
+    bind (wants (is_name w) why.Name) _ (λ _. is_name w ≡ true) (λ _. IsNew names w) (wanted _ why.Name) (λ u n.
+    stronger (wants (not (list_any (bytes_eq w) names)) why.Twice) (λ _. not (list_any (bytes_eq w) names) ≡ true) (λ _. IsNew names w) (wanted _ why.Twice)
+    (λ v e. (n, not_there _ e)))
+
+-- a new name for which there is place
+abbrev IsAdded : ℕ → List (List ℕ) → List ℕ → Type 0
+IsAdded most names w = (is_name w ≡ true) × (list_any (bytes_eq w) names ≡ false) × (length names < most)
+
+added_in : (most : ℕ) (names ws : List (List ℕ)) → IfOk (added_name most names ws) (λ _. IsAdded most names (word ws 0))
+unfolding added_name
+added_in most names ws =
+    bind (counted ws 1) _ Any (λ _. IsAdded most names (word ws 0)) (any (counted ws 1)) (λ u _.
+    bind (new_name names (word ws 0)) _ (λ _. IsNew names (word ws 0)) (λ _. IsAdded most names (word ws 0)) (new_in names (word ws 0)) (λ v n.
+    stronger (wants (nat_lt (length names) most) why.Field) (λ _. nat_lt (length names) most ≡ true) (λ _. IsAdded most names (word ws 0)) (wanted _ why.Field)
+    (λ x e. (n.0, n.1, ltb-true (length names) most e))))
+
+segment_in : (names ws : List (List ℕ)) (P : Said → Type 0) → ((name : List ℕ) → IsAdded 1024 names name → P (said.Segment name)) → IfOk (segment_line names ws) P
+unfolding segment_line
+segment_in names ws P h = bind (added_name 1024 names ws) _ (λ _. IsAdded 1024 names (word ws 0)) P (added_in 1024 names ws) (λ u a. h (word ws 0) a)
+
+client_in : (names ws : List (List ℕ)) (P : Said → Type 0) → ((name : List ℕ) → IsAdded 64 names name → P (said.Client name)) → IfOk (client_line names ws) P
+unfolding client_line
+client_in names ws P h = bind (added_name 64 names ws) _ (λ _. IsAdded 64 names (word ws 0)) P (added_in 64 names ws) (λ u a. h (word ws 0) a)
+
+read_in : (nodes : ℕ) (names ws : List (List ℕ)) → IfOk (read_line names ws) (IsThere nodes (length names))
+unfolding read_line
+read_in nodes names ws =
+    bind (counted ws 3) _ Any (IsThere nodes (length names)) (any (counted ws 3)) (λ u _.
+    bind (known names (word ws 0)) _ (λ i. i < length names) (IsThere nodes (length names)) (known_in names (word ws 0)) (λ seg lt.
+    bind (number (word ws 1)) _ Any (IsThere nodes (length names)) (any (number (word ws 1))) (λ off _.
+    bind (number (word ws 2)) _ Any (IsThere nodes (length names)) (any (number (word ws 2))) (λ len _. (lt, tt)))))
+
+write_in : (nodes : ℕ) (names ws : List (List ℕ)) → IfOk (write_line names ws) (IsThere nodes (length names))
+unfolding write_line
+write_in nodes names ws =
+    bind (counted ws 3) _ Any (IsThere nodes (length names)) (any (counted ws 3)) (λ u _.
+    bind (known names (word ws 0)) _ (λ i. i < length names) (IsThere nodes (length names)) (known_in names (word ws 0)) (λ seg lt.
+    bind (number (word ws 1)) _ Any (IsThere nodes (length names)) (any (number (word ws 1))) (λ off _.
+    bind (data_word (word ws 2)) _ Any (IsThere nodes (length names)) (any (data_word (word ws 2))) (λ bytes _. (lt, tt)))))
+
+swap_in : (nodes : ℕ) (names ws : List (List ℕ)) → IfOk (swap_line names ws) (IsThere nodes (length names))
+unfolding swap_line
+swap_in nodes names ws =
+    bind (counted ws 4) _ Any (IsThere nodes (length names)) (any (counted ws 4)) (λ u _.
+    bind (known names (word ws 0)) _ (λ i. i < length names) (IsThere nodes (length names)) (known_in names (word ws 0)) (λ seg lt.
+    bind (number (word ws 1)) _ Any (IsThere nodes (length names)) (any (number (word ws 1))) (λ off _.
+    bind (data_word (word ws 2)) _ Any (IsThere nodes (length names)) (any (data_word (word ws 2))) (λ before _.
+    bind (data_word (word ws 3)) _ Any (IsThere nodes (length names)) (any (data_word (word ws 3))) (λ after _. (lt, tt))))))
+
+put_in : (nodes : ℕ) (names ws : List (List ℕ)) → IfOk (put_line names ws) (IsThere nodes (length names))
+unfolding put_line
+put_in nodes names ws =
+    bind (counted ws 2) _ Any (IsThere nodes (length names)) (any (counted ws 2)) (λ u _.
+    bind (known names (word ws 0)) _ (λ i. i < length names) (IsThere nodes (length names)) (known_in names (word ws 0)) (λ seg lt.
+    bind (data_word (word ws 1)) _ Any (IsThere nodes (length names)) (any (data_word (word ws 1))) (λ bytes _. (lt, tt))))
+
+plain_in : (nodes : ℕ) (call : Call) (names ws : List (List ℕ)) → NamesNode nodes call → IfOk (plain_line call names ws) (IsThere nodes (length names))
+unfolding plain_line
+plain_in nodes call names ws n =
+    bind (counted ws 1) _ Any (IsThere nodes (length names)) (any (counted ws 1)) (λ u _.
+    bind (known names (word ws 0)) _ (λ i. i < length names) (IsThere nodes (length names)) (known_in names (word ws 0)) (λ seg lt. (lt, n)))
+
+drain_in : (nodes : ℕ) (names ws : List (List ℕ)) → IfOk (drain_line nodes names ws) (IsThere nodes (length names))
+unfolding drain_line
+drain_in nodes names ws =
+    bind (counted ws 2) _ Any (IsThere nodes (length names)) (any (counted ws 2)) (λ u _.
+    bind (known names (word ws 0)) _ (λ i. i < length names) (IsThere nodes (length names)) (known_in names (word ws 0)) (λ seg lt.
+    bind (node nodes (word ws 1)) _ (λ x. x < nodes) (IsThere nodes (length names)) (node_in nodes (word ws 1)) (λ x below. (lt, below))))
+
+fail_in : (nodes segments : ℕ) (ws : List (List ℕ)) → IfOk (fail_line nodes ws) (IsThere nodes segments)
+unfolding fail_line
+fail_in nodes segments ws =
+    bind (counted ws 1) _ Any (IsThere nodes segments) (any (counted ws 1)) (λ u _.
+    bind (node nodes (word ws 0)) _ (λ x. x < nodes) (IsThere nodes segments) (node_in nodes (word ws 0)) (λ x below. below))
+
+what_in : (hd : Header) (names : List (List ℕ)) (v : Verb) (ws : List (List ℕ)) → IfOk (what_says hd names v ws) (IsThere hd.nodes (length names))
+unfolding what_says
+what_in hd names verb.Read ws = read_in hd.nodes names ws
+what_in hd names verb.Write ws = write_in hd.nodes names ws
+what_in hd names verb.Swap ws = swap_in hd.nodes names ws
+what_in hd names verb.Put ws = put_in hd.nodes names ws
+what_in hd names verb.Merge ws = plain_in hd.nodes calls.Merge names ws tt
+what_in hd names verb.Tick ws = plain_in hd.nodes calls.Tick names ws tt
+what_in hd names verb.Rebuild ws = plain_in hd.nodes calls.Rebuild names ws tt
+what_in hd names verb.Upgrade ws = plain_in hd.nodes calls.Upgrade names ws tt
+what_in hd names verb.Drain ws = drain_in hd.nodes names ws
+what_in hd names verb.Fail ws = fail_in hd.nodes (length names) ws
+
+does_in : (hd : Header) (names : List (List ℕ)) (line : ℕ) (v : Verb) (ws : List (List ℕ)) (P : Said → Type 0)
+    → ((what : What) → IsThere hd.nodes (length names) what → P (said.Does line what)) → IfOk (does_line hd names line v ws) P
+unfolding does_line
+does_in hd names line v ws P h = bind (what_says hd names v ws) _ (IsThere hd.nodes (length names)) P (what_in hd names v ws) (λ what t. h what t)
+
+care_in : (ws : List (List ℕ)) (P : Said → Type 0) → ((workers rounds : ℕ) → workers ≤ 16 → rounds ≤ 65536 → P (said.Care workers rounds)) → IfOk (care_line ws) P
+unfolding care_line
+care_in ws P h =
+    bind (counted ws 2) _ Any P (any (counted ws 2)) (λ u _.
+    bind (field 0 16 (word ws 0)) _ (λ v. (0 ≤ v) × (v ≤ 16)) P (field_in 0 16 (word ws 0)) (λ workers q.
+    bind (field 0 65536 (word ws 1)) _ (λ v. (0 ≤ v) × (v ≤ 65536)) P (field_in 0 65536 (word ws 1)) (λ rounds r. h workers rounds q.1 r.1)))
+
+schedule_in : (names ws : List (List ℕ)) (P : Said → Type 0) → ((turns : List ℕ) → All (λ i. i < length names) turns → P (said.Schedule turns)) → IfOk (schedule_line names ws) P
+unfolding schedule_line
+schedule_in names ws P h =
+    bind (wants (nat_le 1 (length ws)) why.Count) _ Any P (any (wants (nat_le 1 (length ws)) why.Count)) (λ u _.
+    bind (each_known names ws) _ (All (λ i. i < length names)) P (each_in names ws) (λ turns all. h turns all))
+
+end_in : (ws : List (List ℕ)) (P : Said → Type 0) → P said.End → IfOk (end_line ws) P
+unfolding end_line
+end_in ws P h = bind (counted ws 0) _ Any P (any (counted ws 0)) (λ u _. h)
+
+pub rest_accepts : (before : List Said) (line : ℕ) (w : Keyword) (ws : List (List ℕ)) → 1 ≤ line → may_follow (header_of before).version (last_of before) w ≡ true
+    → IfOk (rest_says (header_of before) (segments_of before) (clients_of before) line w ws) (Accepts before)
+unfolding rest_says
+rest_accepts before line key.Codfs ws le e =
+    codfs_in ws (Accepts before) (λ v a b. record { order = follows_place _ _ _ e; needs = λ _. tt; fresh = tt; good = (a, b) })
+rest_accepts before line key.Nodes ws le e =
+    nodes_in ws (Accepts before) (λ x cap a b c. record { order = follows_place _ _ _ e; needs = λ _. tt; fresh = tt; good = (a, b, c) })
+rest_accepts before line key.Code ws le e =
+    code_in (header_of before) ws (Accepts before) (λ n k a b c d f. record { order = follows_place _ _ _ e; needs = λ _. tt; fresh = tt; good = (a, b, c, d, f) })
+rest_accepts before line key.Block ws le e =
+    field_line_in 1 1048576 said.Block ws (Accepts before) (λ v a b. record { order = follows_place _ _ _ e; needs = λ _. tt; fresh = tt; good = (a, b) })
+rest_accepts before line key.Update ws le e =
+    field_line_in 1 (min (bytes_of (header_of before)) 65536) said.Update ws (Accepts before)
+    (λ v a b. record { order = follows_place _ _ _ e; needs = λ _. tt; fresh = tt; good = (a, omega (arith, b), omega (arith, b)) })
+rest_accepts before line key.Reserve ws le e =
+    field_line_in (floor_of (header_of before)) 4194304 said.Reserve ws (Accepts before)
+    (λ v a b. record { order = follows_place _ _ _ e; needs = λ _. tt; fresh = tt; good = (a, b) })
+rest_accepts before line key.Unit ws le e =
+    field_line_in 1 (header_of before).reserve said.Unit ws (Accepts before) (λ v a b. record { order = follows_place _ _ _ e; needs = λ _. tt; fresh = tt; good = (a, b) })
+rest_accepts before line key.Alpha ws le e =
+    field_line_in 0 10000 said.Alpha ws (Accepts before) (λ v a b. record { order = follows_place _ _ _ e; needs = λ _. tt; fresh = tt; good = b })
+rest_accepts before line key.Segment ws le e =
+    segment_in (segments_of before) ws (Accepts before) (λ name a. record { order = follows_place _ _ _ e; needs = λ _. tt; fresh = (a.1, a.2); good = a.0 })
+rest_accepts before line key.Client ws le e =
+    client_in (clients_of before) ws (Accepts before)
+    (λ name a. record { order = follows_place _ _ _ e; needs = λ h. follows_needs _ _ _ (parts_of before) e h; fresh = (a.1, a.2); good = a.0 })
+rest_accepts before line (key.Does v) ws le e =
+    does_in (header_of before) (segments_of before) line v ws (Accepts before)
+    (λ what t. record { order = follows_place _ _ _ e; needs = λ h. follows_needs _ _ _ (parts_of before) e h; fresh = tt; good = (le, t) })
+rest_accepts before line key.Care ws le e =
+    care_in ws (Accepts before)
+    (λ workers rounds a b. record { order = follows_place _ _ _ e; needs = λ h. follows_needs _ _ _ (parts_of before) e h; fresh = tt; good = (a, b) })
+rest_accepts before line key.Schedule ws le e =
+    schedule_in (clients_of before) ws (Accepts before)
+    (λ turns all. record { order = follows_place _ _ _ e; needs = λ h. follows_needs _ _ _ (parts_of before) e h; fresh = tt; good = all })
+rest_accepts before line key.End ws le e =
+    end_in ws (Accepts before) (record { order = follows_place _ _ _ e; needs = λ h. follows_needs _ _ _ (parts_of before) e h; fresh = tt; good = tt })
+
+pub words_in : (before : List Said) (line : ℕ) (first : List ℕ) (ws : List (List ℕ)) → 1 ≤ line → IfOk (words_mean before line first ws) (Accepts before)
+unfolding words_mean
+words_in before line first ws le =
+    bind (wants (not (is_end (last_of before))) why.AfterEnd) _ Any (Accepts before) (any (wants (not (is_end (last_of before))) why.AfterEnd)) (λ u _.
+    bind (found (keyword_of first) why.Word) _ Any (Accepts before) (any (found (keyword_of first) why.Word)) (λ w _.
+    bind (wants (may_follow (header_of before).version (last_of before) w) why.Order) _ (λ _. may_follow (header_of before).version (last_of before) w ≡ true) (Accepts before)
+    (wanted _ why.Order) (λ v e. rest_accepts before line w ws le e)))
+
+pub words_accept : (before : List Said) (line : ℕ) (first : List ℕ) (ws : List (List ℕ)) (s : Said) → 1 ≤ line → words_mean before line first ws ≡ Ok s → Accepts before s
+words_accept before line first ws s le e = let h = words_in before line first ws le in rw e at h

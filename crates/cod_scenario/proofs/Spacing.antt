@@ -1,0 +1,20 @@
+-- The words of a schedule's line.
+use Rattle.std.proofs.Common.{◌≡◌, ◌++◌, List, [], ◌∷◌, ℕ, Option, Some, None, Result, Ok, Err, refl, sym, ap, ◌∙◌, append_assoc, ◌+◌, ◌<◌, length, map, take, drop, get_or, ◌/◌, ◌%◌, arith}
+use Rattle.std.specs.Io.KnownBytes.{append_known}
+use Rattle.std.specs.Prelude.{slice_index, codes, decimal, true, false}
+use Rattle.std.specs.List.{flat_map}
+use Rattle.std.proofs.lemmas.List.{append-nil, take-append-drop, drop_more}
+use Rattle.std.proofs.lemmas.List.Concat.{flat_map-append}
+use Rattle.hex.specs.Hex.{encode_lower, encode_with, lower_digits}
+use Rattle.cod_scenario.specs.Plan.{Client}
+use Rattle.cod_scenario.specs.Text.{words_text, schedule_text, name_at}
+
+-- the words of a line, each with its space
+words_spaced : (f : ℕ → List ℕ) (ts : List ℕ) → words_text (map f ts) ≡ flat_map (λ t. 32 ∷ f t) ts ++ 10 ∷ []
+words_spaced f [] = refl
+words_spaced f (t ∷ ts) = ap (λ (l : List ℕ). 32 ∷ (f t ++ l)) (words_spaced f ts) ∙ ap (λ (l : List ℕ). 32 ∷ l) (sym (append_assoc (f t) (flat_map (λ t. 32 ∷ f t) ts) (10 ∷ [])))
+
+pub schedule_parts : (clients : List Client) (ts : List ℕ) → 0 < length ts
+    → schedule_text clients ts ≡ codes "schedule" ++ (flat_map (λ t. 32 ∷ name_at clients t) ts ++ 10 ∷ [])
+schedule_parts clients [] h = absurd (omega (arith, h))
+schedule_parts clients (t ∷ ts) h = ap (λ (l : List ℕ). codes "schedule" ++ l) (words_spaced (name_at clients) (t ∷ ts))

@@ -1,0 +1,7 @@
+use Rattle.std.proofs.Common.{◌≡◌, ◌*◌, ◌≤◌, ◌^◌}
+use Rattle.std.specs.List.{sum_by, range_with_len}
+use Rattle.cod_scenario.specs.Lines.{column_on}
+use Rattle.cod_scenario.proofs.room.taken_by.Given as goal
+
+abbrev pub invariant-loop-i : goal.invariant-loop-i
+invariant-loop-i l = record { total : l.sum ≡ sum_by (column_on l.h l.x l.s) (range_with_len 0 l.i); small : l.sum ≤ l.i * 2 ^ 33 }

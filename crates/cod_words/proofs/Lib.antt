@@ -1,0 +1,4 @@
+pub mod Digits
+mod FirstLines
+pub mod Names
+pub mod Round
