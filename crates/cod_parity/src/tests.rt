@@ -85,10 +85,11 @@ fn column_on<S: Shelf>(
     Ok(ParityColumn::new(g, region))
 }
 
-/// Appends the record of the update of block 0 from place 0 on, where it may.
+/// Appends the record of the update of a block from place 0 on, where it may.
 fn append<R: Region>(
     column: &mut ParityColumn<Watched<R>>,
     g: Geometry,
+    block: u8,
     number: u64,
     version: u8,
     coef: u8,
@@ -103,7 +104,7 @@ fn append<R: Region>(
     let _columns = g.k(); // the limits of a geometry are told here
     let mut scratch = [0u8; SCRATCH];
     let len = delta.len();
-    let known = version == 1 || version == 2 && g.version() == 2;
+    let known = block < g.k() && (version == 1 || version == 2 && g.version() == 2);
     let short = len <= g.update() as usize && len <= g.block() as usize;
     let fits = (g.block() + g.reserve()) as usize <= SCRATCH;
     if SCRATCH < len || (column.size() as usize) < 21 + len {
@@ -111,7 +112,7 @@ fn append<R: Region>(
     }
     if known && short && fits {
         let head = Head {
-            block: 0,
+            block: block as u16,
             number,
             off: 0,
             len: len as u32,
@@ -125,8 +126,8 @@ fn append<R: Region>(
 #[derive(Clone, Copy)]
 enum Step {
     Put(u8),
-    Append(u64, u8, u8, [u8; 2]),
-    Commit,
+    Append(u8, u64, u8, u8, [u8; 2]),
+    Commit(u8),
     Read,
     Merge,
     Tick,
@@ -158,14 +159,14 @@ fn take_step<R: Region>(
             bytes[0] = byte;
             column.put(&bytes[..block])
         }
-        Append(number, version, coef, ends) => {
+        Append(j, number, version, coef, ends) => {
             bytes[0] = ends[0];
             bytes[block - 1] = ends[1];
-            append(column, g, number, version, coef, &bytes[..block], cuts)
+            append(column, g, j, number, version, coef, &bytes[..block], cuts)
         }
-        Commit => {
-            if cuts.get(0) < 100 {
-                cuts.raise(0);
+        Commit(j) => {
+            if j < 16 && cuts.get(j) < 100 {
+                cuts.raise(j);
             }
             Ok(())
         }
@@ -232,13 +233,13 @@ fn third_update_merges_first(rt: HostRuntime) -> Result<(), Fail> {
     for (base, coef, steps, used, reads, writes, value, byte) in rows {
         let script = [
             Put(base),
-            Append(1, 1, coef, [0, 4]),
+            Append(0, 1, 1, coef, [0, 4]),
             Read,
-            Commit,
+            Commit(0),
             Read,
-            Append(2, 1, coef, [0, 3]),
-            Commit,
-            Append(3, 1, coef, [0, 1]),
+            Append(0, 2, 1, coef, [0, 3]),
+            Commit(0),
+            Append(0, 3, 1, coef, [0, 1]),
             Read,
         ];
         let mut column = column_on(rt.alloc(), &MemShelf::new(), g)?;
@@ -259,12 +260,12 @@ fn second_version_leaves_zeros_out(rt: HostRuntime) -> Result<(), Fail> {
         return Ok(());
     };
     let script = [
-        Append(1, 1, 3, [1, 2]),
-        Commit,
-        Append(2, 2, 3, [0, 1]),
-        Commit,
-        Append(3, 2, 3, [0, 0]),
-        Commit,
+        Append(0, 1, 1, 3, [1, 2]),
+        Commit(0),
+        Append(0, 2, 2, 3, [0, 1]),
+        Commit(0),
+        Append(0, 3, 2, 3, [0, 0]),
+        Commit(0),
         Merge,
         Merge,
     ];
@@ -300,16 +301,29 @@ fn ticks_shrink_to_the_floor(rt: HostRuntime) -> Result<(), Fail> {
     let Ok(g) = shape else {
         return Ok(());
     };
-    let quiet = [Tick, Tick, Tick, Append(1, 1, 1, [1, 4]), Tick];
-    for (steps, want) in [
-        (1usize, [0u64, 52u64, 5000u64, 0u64, 0u64]),
-        (2, [0, 46, 2500, 0, 0]),
-        (3, [0, 46, 1250, 0, 0]),
-        (5, [23, 46, 3125, 0, 1]),
-    ] {
+    let quiet = [Tick, Tick, Tick, Append(0, 1, 1, 1, [1, 4]), Tick];
+    let busy = [
+        Append(0, 1, 1, 1, [1, 4]),
+        Append(1, 1, 1, 1, [1, 4]),
+        Commit(0),
+        Append(0, 2, 1, 1, [1, 4]),
+        Commit(0),
+        Append(0, 3, 1, 1, [1, 4]),
+        Commit(0),
+        Append(0, 4, 1, 1, [1, 4]),
+        Tick,
+    ];
+    let cases: [(&[Step], usize, [u64; 5]); 5] = [
+        (&quiet, 1, [0, 52, 5000, 0, 0]),
+        (&quiet, 2, [0, 46, 2500, 0, 0]),
+        (&quiet, 3, [0, 46, 1250, 0, 0]),
+        (&quiet, 5, [23, 46, 3125, 0, 1]),
+        (&busy, 9, [46, 100, 10_000, 1, 6]),
+    ];
+    for (script, steps, want) in cases {
         let mut column = column_on(rt.alloc(), &MemShelf::new(), g)?;
-        assert!(rt; steps <= 5);
-        assert_eq!(rt; run(&mut column, g, &quiet[..steps]), (steps, 0));
+        assert!(rt; steps <= script.len());
+        assert_eq!(rt; run(&mut column, g, &script[..steps]), (steps, 0));
         assert_eq!(rt; seen(&column), want);
         assert_eq!(rt; column.region().len() as u64, 4 + want[1]);
         assert_eq!(rt; column.appended() == 0, true);
@@ -327,13 +341,13 @@ fn each_failed_call_is_answered(rt: HostRuntime) -> Result<(), Fail> {
     };
     let script = [
         Put(7),
-        Append(1, 1, 1, [0, 4]),
-        Commit,
-        Append(2, 1, 1, [0, 3]),
-        Commit,
+        Append(0, 1, 1, 1, [0, 4]),
+        Commit(0),
+        Append(0, 2, 1, 1, [0, 3]),
+        Commit(0),
         Read,
-        Append(3, 1, 1, [0, 1]),
-        Commit,
+        Append(0, 3, 1, 1, [0, 1]),
+        Commit(0),
         Merge,
         Tick,
         Tick,
@@ -364,7 +378,7 @@ fn each_failed_call_is_answered(rt: HostRuntime) -> Result<(), Fail> {
     Ok(())
 }
 
-// An update of 04 is committed in two columns, times 3 and 2.
+// Updates 04 and 06 of two data blocks are committed one after the other, in two columns: times 3 and 2, and times 2 and 3.
 #[test]
 fn sum_of_two_columns(rt: HostRuntime) -> Result<(), Fail> {
     let shape = Geometry::new(4, 2, 1, 1, 40, 1, 5000);
@@ -374,12 +388,16 @@ fn sum_of_two_columns(rt: HostRuntime) -> Result<(), Fail> {
     };
     let mut one = column_on(rt.alloc(), &MemShelf::new(), g)?;
     let mut two = column_on(rt.alloc(), &MemShelf::new(), g)?;
-    assert_eq!(rt; run(&mut one, g, &[Append(1, 1, 3, [0, 4])]).0, 1);
-    assert_eq!(rt; run(&mut two, g, &[Append(1, 1, 2, [0, 4])]).0, 1);
+    let first = [Append(0, 1, 1, 3, [0, 4]), Append(1, 1, 1, 2, [0, 6])];
+    assert_eq!(rt; run(&mut one, g, &first).0, 2);
+    let second = [Append(0, 1, 1, 2, [0, 4]), Append(1, 1, 1, 3, [0, 6])];
+    assert_eq!(rt; run(&mut two, g, &second).0, 2);
     let mut cuts = Cuts::new();
     assert_eq!(rt; sum(&mut one, &mut two, g, &cuts), Ok(0));
     cuts.raise(0);
     assert_eq!(rt; sum(&mut one, &mut two, g, &cuts), Ok(4));
+    cuts.raise(1);
+    assert_eq!(rt; sum(&mut one, &mut two, g, &cuts), Ok(2));
     Ok(())
 }
 

@@ -4,7 +4,8 @@ use cod_io::{MemSink, Sink};
 use cod_print::text;
 use cod_scenario::Scenario;
 use cod_types::{
-    Bytes, Call, Caller, LayoutLine, NodeId, ParityLine, Reason, Reasons, Reply, SegId, Why,
+    Bytes, Call, Caller, LayoutLine, NodeId, OutOfMemory, ParityLine, Reason, Reasons, Reply,
+    SegId, Why,
 };
 use std::alloc::Global;
 use std::test::Fail;
@@ -222,51 +223,62 @@ fn lines_of_a_segment(rt: HostRuntime) -> Result<(), Fail> {
     Ok(())
 }
 
+/// A chronicle of one call that was answered.
+fn answered_alone(alloc: Global, call: Call, reply: Reply) -> Result<Chronicle, OutOfMemory> {
+    let mut chronicle = Chronicle::new(alloc);
+    let said = Entry::Call {
+        caller: Caller(0),
+        number: 0,
+        stamp: 1,
+        call,
+        reply,
+    };
+    chronicle.push_link(Link::new(alloc)?, said);
+    Ok(chronicle)
+}
+
 #[test]
 fn summary_of_each_kind(rt: HostRuntime) -> Result<(), Fail> {
     let alloc = rt.alloc();
-    let mut first = Chronicle::new(alloc);
     let put = Call::Put {
         bytes: bytes(alloc, &[1, 2]),
     };
-    first.push_link(Link::new(alloc)?, answered(1, 0, put, Reply::Done));
     let swap = Call::Swap {
         off: 0,
         old: bytes(alloc, &[1]),
         new: bytes(alloc, &[7, 8, 9]),
     };
-    first.push_link(Link::new(alloc)?, answered(2, 1, swap, Reply::Done));
     let write = Call::Write {
         off: 0,
         bytes: bytes(alloc, &[1, 2, 3, 4]),
     };
-    first.push_link(Link::new(alloc)?, answered(3, 2, write, Reply::Long));
     let read = Call::Read { off: 0, len: 2 };
     let told = Reply::Bytes(bytes(alloc, &[1, 2]));
-    first.push_link(Link::new(alloc)?, answered(4, 3, read, told));
-    let mut second = Chronicle::new(alloc);
-    second.push_link(
-        Link::new(alloc)?,
-        answered(1, 0, Call::Upgrade, Reply::Done),
-    );
-    second.push_link(
-        Link::new(alloc)?,
-        Entry::Move {
-            stamp: 2,
-            col: 0,
-            node: NodeId(4),
-        },
-    );
+    let drain = Call::Drain { node: NodeId(0) };
     let shifted = Reply::Shifted {
         col: 0,
         node: NodeId(4),
     };
-    let drain = Call::Drain { node: NodeId(0) };
-    second.push_link(Link::new(alloc)?, answered(3, 1, drain, shifted));
+    let mut moved = Chronicle::new(alloc);
+    let moves = Entry::Move {
+        stamp: 1,
+        col: 0,
+        node: NodeId(4),
+    };
+    moved.push_link(Link::new(alloc)?, moves);
+    let all = [
+        answered_alone(alloc, put, Reply::Done)?,
+        answered_alone(alloc, swap, Reply::Done)?,
+        answered_alone(alloc, write, Reply::Long)?,
+        answered_alone(alloc, read, told)?,
+        answered_alone(alloc, Call::Upgrade, Reply::Done)?,
+        answered_alone(alloc, drain, shifted)?,
+        moved,
+    ];
     let mut sink = MemSink::new(alloc, 500, &[])?;
-    assert!(rt; summary(&mut sink, &[first, second]).is_ok());
+    assert!(rt; summary(&mut sink, &all).is_ok());
     let want =
-        "segments 2\ncalls 6 read 1 write 1 put 1 merge 0 tick 0 rebuild 0\nreplies bytes 1 done 3 range 0 long 1 lost 0 whole 0 rebuilt 0 nospare 0 nomem 0\nmarks down 0 up 0\nmoved read 2 written 5\nswap 1 differs 0\nupgrade 1\ndrain 1 shifted 1 clear 0 moves 1\n";
+        "segments 7\ncalls 6 read 1 write 1 put 1 merge 0 tick 0 rebuild 0\nreplies bytes 1 done 3 range 0 long 1 lost 0 whole 0 rebuilt 0 nospare 0 nomem 0\nmarks down 0 up 0\nmoved read 2 written 5\nswap 1 differs 0\nupgrade 1\ndrain 1 shifted 1 clear 0 moves 1\n";
     assert_eq!(rt; sink.bytes(), want.as_bytes());
     Ok(())
 }

@@ -1,4 +1,4 @@
-use Rattle.std.proofs.Common.{◌≡◌, ap₂, bit_xor, arith}
+use Rattle.std.proofs.Common.{ap₂, bit_xor, arith}
 use Rattle.cod_parity.proofs.tests.sum.Goals as goal
 
 pub returns-clause-value : goal.returns-clause-value
