@@ -4,3 +4,4 @@ mod Within
 pub mod Splits
 pub mod Names
 pub mod Back
+pub mod ScenarioNames

@@ -15,6 +15,7 @@ use Rattle.cod_chronicle.specs.declared.entry.Cause.TheVariants.{Killed, Fault}
 use Rattle.cod_chronicle.specs.Said.{StampsRise}
 use Rattle.cod_chronicle.specs.Order.{placed}
 use Rattle.cod_scenario.specs.Plan.{Plan, nobody}
+use Rattle.cod_scenario.specs.Sound.{IsScenario}
 use Rattle.cod_text.specs.Printed.{chronicle_text}
 
 -- bytes that a line's word may have
@@ -87,3 +88,7 @@ pub record HasChronicles (x : Plan) (hs : List (List Entry)) : Type 0 where
 -- For one scenario, chronicles with equal text are equal.
 abbrev pub IsReadOneWay : Type 0
 IsReadOneWay = (x : Plan) (hs ks : List (List Entry)) → HasNames x → HasChronicles x hs → HasChronicles x ks → chronicle_text x hs ≡ chronicle_text x ks → hs ≡ ks
+
+-- every scenario has names
+abbrev pub ScenarioHasNames : Type 0
+ScenarioHasNames = (x : Plan) → IsScenario x → HasNames x

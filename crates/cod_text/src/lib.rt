@@ -9,7 +9,7 @@ mod summing;
 mod tally;
 
 pub use chronicles::chronicle;
-pub use laws::{printed_alone, read_one_way};
+pub use laws::{printed_alone, read_one_way, scenario_has_names};
 pub use lines::{entry, layout, node, segment};
 pub use summing::summary;
 

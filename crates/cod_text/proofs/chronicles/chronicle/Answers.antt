@@ -1,10 +1,10 @@
-use Rattle.std.proofs.Common.{◌≡◌, ◌++◌, ◌∙◌, [], ◌∷◌, ap, sym, List, ℕ, length, map, subst, refl}
+use Rattle.std.proofs.Common.{◌++◌, ◌∙◌, [], ◌∷◌, sym, List, ℕ, length, map, refl}
 use Rattle.std.specs.List.{flat_map}
 use Rattle.std.proofs.lemmas.List.{length-map}
-use Rattle.cod_chronicle.specs.Order.{Placed, order, place}
+use Rattle.cod_chronicle.specs.Order.{Placed, place}
 use Rattle.cod_text.specs.Printed.{line_text}
 use Rattle.cod_print.proofs.Fronts.{append_known-nil, took_front, took_more, flat_map_next, one_done, text_more}
-use Rattle.cod_text.proofs.Within.{IsBelow, order_within, within_rest}
+use Rattle.cod_text.proofs.Within.{within_rest}
 use Rattle.std.proofs.lemmas.Result.{err_from_is_err_and}
 use Rattle.cod_text.proofs.chronicles.chronicle.Goals as goal
 

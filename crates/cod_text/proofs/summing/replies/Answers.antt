@@ -1,8 +1,6 @@
-use Rattle.std.proofs.Common.{◌≡◌, ◌++◌, ◌∷◌, [], ◌∙◌, List, ℕ, ap, sym, codes, append_assoc}
+use Rattle.std.proofs.Common.{sym, codes}
 use Rattle.std.proofs.lemmas.Result.{err_from_is_err_and}
-use Rattle.cod_text.specs.Printed.{line_of}
-use Rattle.cod_print.specs.Pieces.{spaced}
-use Rattle.cod_text.specs.Summary.{first_replies, other_replies, Tally}
+use Rattle.cod_text.specs.Summary.{first_replies, other_replies}
 use Rattle.cod_print.proofs.Fronts.{front_of, puts_behind, puts_same}
 use Rattle.cod_text.proofs.Spacing.{line_two}
 use Rattle.cod_text.proofs.summing.replies.Goals as goal

@@ -1,5 +1,4 @@
-use Rattle.std.proofs.Common.{◌≡◌, ◌++◌, ◌∙◌, [], ◌∷◌, ap, sym, List}
-use Rattle.std.specs.List.{fold}
+use Rattle.std.proofs.Common.{◌++◌, ◌∙◌, [], ◌∷◌, ap, sym}
 use Rattle.std.proofs.lemmas.List.Sums.{fold-append}
 use Rattle.cod_text.specs.Summary.{with_entry}
 use Rattle.cod_print.proofs.Fronts.{one_done}

@@ -1,0 +1,296 @@
+-- What is known of the lines of a text that was accepted.
+use Rattle.std.proofs.Common.{◌≡◌, ℕ, zero, suc, ◌+◌, ◌<◌, ◌≤◌, ◌^◌, Bool, true, false, cond, List, [], ◌∷◌, ◌++◌, length, drop, take, refl, ap, arith, Result, Ok, Err, not, inl, inr, nat_eq}
+use Rattle.std.specs.Prelude.{IfOk, nat_le, ◌||◌, slice_index}
+use Rattle.std.specs.List.{AllByRecursion, list_all, filter, slice_split, onto_first}
+use Rattle.std.specs.Str.Lines.{strip_carriage_return}
+use Rattle.std.proofs.lemmas.Bool.{cases_lt, leb-true, le-ltb, lt-ltb}
+use Rattle.std.proofs.lemmas.List.{length-take}
+use Rattle.cod_words.specs.Words.{words_of, lines_of, is_not_empty}
+use Rattle.cod_scenario.specs.declared.line.Line.{Line}
+use Rattle.cod_scenario.specs.declared.refusal.Refusal.{Refusal}
+use Rattle.cod_scenario.specs.declared.refusal.Refusal.TheVariants as why
+use Rattle.cod_scenario.specs.declared.said.Header.{Header}
+use Rattle.cod_scenario.specs.declared.said.Said.{Said}
+use Rattle.cod_scenario.specs.declared.said.Said.TheVariants as said
+use Rattle.cod_scenario.specs.Plan.{Plan, Client}
+use Rattle.cod_scenario.specs.Lines.{Parts, no_parts, header_of, parts_of, plan_of, plan_with, weight_of, line_weight, with_line, onto_last, noted, has_room}
+use Rattle.cod_scenario.specs.Judge.{◌>>=◌, wants, word, words_mean, carried, is_placed, is_segment, words_say, all_say, line_says, is_plain_byte, at_line, lines_say, to_end, text_says, last_of, is_end}
+use Rattle.cod_scenario.specs.Reads.{reads, plan_or}
+use Rattle.cod_scenario.specs.Reading.{IsSound, Accepts}
+use Rattle.cod_scenario.proofs.Accepting.{bind, Any, any, wanted, words_in}
+use Rattle.cod_scenario.proofs.Gathering.{parts_more}
+use Rattle.cod_scenario.proofs.Soundness.{length_more, sound_more}
+use Rattle.cod_scenario.proofs.Totals.{header_early, header_late, weight_late}
+use Rattle.cod_scenario.proofs.Keeping.{nothing_sound}
+use Rattle.cod_canonical.proofs.ClientLines.{IsSpoken, weight_unnumbered}
+use Rattle.cod_canonical.proofs.Spoken.{IsSaid, AreShort, words_good}
+use Rattle.cod_canonical.proofs.Weights.{segments_weight, lines_weight, clients_weight, parts_weight}
+
+-- ---- the weight of the parts
+
+segments_push : (h : Header) (names : List (List ℕ)) (name : List ℕ) → segments_weight h (names ++ name ∷ []) ≡ segments_weight h names + line_weight h (said.Segment name)
+unfolding segments_weight
+segments_push h [] name = omega arith
+segments_push h (w ∷ names) name = let r = segments_push h names name in omega (arith, r)
+
+lines_push : (h : Header) (ls : List Line) (l : Line) → lines_weight h (ls ++ l ∷ []) ≡ lines_weight h ls + line_weight h (said.Does 0 l.what)
+unfolding lines_weight
+lines_push h [] l = omega arith
+lines_push h (d ∷ ls) l = let r = lines_push h ls l in omega (arith, r)
+
+clients_push : (h : Header) (cs : List Client) (name : List ℕ) → clients_weight h (cs ++ (record { name = name; lines = [] }) ∷ []) ≡ clients_weight h cs
+unfolding clients_weight lines_weight
+clients_push h [] name = refl
+clients_push h (c ∷ cs) name = let r = clients_push h cs name in omega (arith, r)
+
+clients_onto : (h : Header) (cs : List Client) (l : Line) → clients_weight h (onto_last cs l) ≤ clients_weight h cs + line_weight h (said.Does 0 l.what)
+unfolding clients_weight
+clients_onto h [] l = omega arith
+clients_onto h (c ∷ []) l = let r = lines_push h c.lines l in omega (arith, r)
+clients_onto h (c ∷ d ∷ more) l = let r = clients_onto h (d ∷ more) l in omega (arith, r)
+
+weight_step : (h : Header) (p : Parts) (s : Said) → parts_weight h (with_line p s) ≤ parts_weight h p + line_weight h s
+unfolding parts_weight
+weight_step h p (said.Segment name) = let r = segments_push h p.segments name in omega (arith, r)
+weight_step h p (said.Client name) = let r = clients_push h p.clients name in omega (arith, r)
+weight_step h p (said.Does line what) =
+    let r = clients_onto h p.clients (record { line = line; what = what }) in let w = weight_unnumbered h line what in omega (arith, r, w)
+weight_step h p (said.Care workers rounds) = omega arith
+weight_step h p _ = omega arith
+
+no_weight : (h : Header) → parts_weight h no_parts ≡ 0
+unfolding parts_weight segments_weight clients_weight line_weight
+no_weight h = omega arith
+
+-- ---- the lines of the clients
+
+abbrev pub AreSpoken : ℕ → List Client → Type 0
+AreSpoken version cs = AllByRecursion (λ (c : Client). AllByRecursion (λ (l : Line). IsSpoken version l.what) c.lines) cs
+
+lines_spoken : (version : ℕ) (ls : List Line) (l : Line) → AllByRecursion (λ (l : Line). IsSpoken version l.what) ls → IsSpoken version l.what
+    → AllByRecursion (λ (l : Line). IsSpoken version l.what) (ls ++ l ∷ [])
+lines_spoken version [] l all good = (good, tt)
+lines_spoken version (d ∷ ls) l all good = (all.0, lines_spoken version ls l all.1 good)
+
+clients_spoken : (version : ℕ) (cs : List Client) (name : List ℕ) → AreSpoken version cs → AreSpoken version (cs ++ (record { name = name; lines = [] }) ∷ [])
+clients_spoken version [] name all = (tt, tt)
+clients_spoken version (c ∷ cs) name all = (all.0, clients_spoken version cs name all.1)
+
+onto_spoken : (version : ℕ) (cs : List Client) (l : Line) → AreSpoken version cs → IsSpoken version l.what → AreSpoken version (onto_last cs l)
+onto_spoken version [] l all good = tt
+onto_spoken version (c ∷ []) l all good = (lines_spoken version c.lines l all.0 good, tt)
+onto_spoken version (c ∷ d ∷ more) l all good = (all.0, onto_spoken version (d ∷ more) l all.1 good)
+
+spoken_step : (version : ℕ) (p : Parts) (s : Said) → AreSpoken version p.clients → IsSaid version s → AreSpoken version (with_line p s).clients
+spoken_step version p (said.Client name) all good = clients_spoken version p.clients name all
+spoken_step version p (said.Does line what) all good = onto_spoken version p.clients (record { line = line; what = what }) all good
+spoken_step version p _ all good = all
+
+-- ---- all that is known
+
+abbrev HasRoom : Header → Parts → Type 0
+HasRoom h p = 1 ≤ length p.segments → has_room h (length p.segments) ≡ true
+
+room_step : (h : Header) (p : Parts) (s : Said) → HasRoom h p → (not (is_segment s) || has_room h (length p.segments + 1)) ≡ true → HasRoom h (with_line p s)
+room_step h p (said.Segment name) old placed some = rw (length_more p.segments name) placed
+room_step h p _ old placed some = old some
+
+pub record IsHeard (lines : List Said) : Type 0 where
+  pub capacity : (header_of lines).capacity < 2 ^ 32
+  pub spoken : AreSpoken (header_of lines).version (parts_of lines).clients
+  pub weight : parts_weight (header_of lines) (parts_of lines) ≤ weight_of lines
+  pub light : weight_of lines ≤ 268435456
+  pub room : HasRoom (header_of lines) (parts_of lines)
+
+noted_capacity : (h : Header) (version : ℕ) (s : Said) → h.capacity < 2 ^ 32 → IsSaid version s → (noted h s).capacity < 2 ^ 32
+noted_capacity h version (said.Codfs v) old good = old
+noted_capacity h version (said.Nodes nodes capacity) old good = good
+noted_capacity h version (said.Code n k) old good = old
+noted_capacity h version (said.Block b) old good = old
+noted_capacity h version (said.Update u) old good = old
+noted_capacity h version (said.Reserve r) old good = old
+noted_capacity h version (said.Unit x) old good = old
+noted_capacity h version (said.Alpha a) old good = old
+noted_capacity h version _ old good = old
+
+-- a line that was carried
+record IsCarried (before : List Said) (s : Said) : Type 0 where
+  pub accepts : Accepts before s
+  pub good : IsSaid (header_of before).version s
+  pub light : weight_of (before ++ s ∷ []) ≤ 268435456
+  pub placed : is_placed before s ≡ true
+
+heard_more : (before : List Said) (s : Said) → IsSound before → IsHeard before → IsCarried before s → IsHeard (before ++ s ∷ [])
+heard_more before s i h c = elim (cases_lt (length before) 8) [
+  | inl lt ↦
+      let n = length_more before s in
+      let bare : parts_of (before ++ s ∷ []) ≡ no_parts = (sound_more before s i c.accepts).bare (omega (arith, n, lt)) in
+      let none = no_weight (header_of (before ++ s ∷ [])) in
+      record {
+        capacity = rw (header_early before s lt) (noted_capacity (header_of before) _ s h.capacity c.good);
+        spoken = rw bare tt;
+        weight = rw bare (omega (arith, none));
+        light = c.light;
+        room = λ some. absurd (no_segments _ bare some);
+      }
+  | inr late ↦
+      let same = header_late before s late in
+      let more = weight_late before s late in
+      let old = h.weight in
+      let step = weight_step (header_of before) (parts_of before) s in
+      record {
+        capacity = rw same h.capacity;
+        spoken = rw (same, parts_more before s) (spoken_step (header_of before).version (parts_of before) s h.spoken c.good);
+        weight = rw (same, parts_more before s) (omega (arith, more, old, step));
+        light = c.light;
+        room = rw (same, parts_more before s) (room_step (header_of before) (parts_of before) s h.room c.placed);
+      }
+] where
+  no_segments : (p : Parts) → p ≡ no_parts → 1 ≤ length p.segments → ⊥
+  no_segments p e some = let n = ap (λ (q : Parts). length q.segments) e in omega (arith, n, some)
+
+heard_none : IsHeard []
+unfolding header_of parts_of weight_of parts_weight segments_weight clients_weight line_weight
+heard_none = record { capacity = omega arith; spoken = tt; weight = omega arith; light = omega arith; room = λ some. absurd (omega (arith, some)) }
+
+-- ---- the lengths of the words
+
+abbrev AreWithin : ℕ → List (List ℕ) → Type 0
+AreWithin most ws = AllByRecursion (λ w. length w ≤ most) ws
+
+wider : (most : ℕ) (ws : List (List ℕ)) → AreWithin most ws → AreWithin (suc most) ws
+wider most [] all = tt
+wider most (w ∷ ws) all = let a = all.0 in (omega (arith, a), wider most ws all.1)
+
+within_first : (most x : ℕ) (ws : List (List ℕ)) → AreWithin most ws → AreWithin (suc most) (onto_first x ws)
+within_first most x [] all = (omega arith, tt)
+within_first most x (w ∷ ws) all = let a = all.0 in (omega (arith, a), wider most ws all.1)
+
+cut_by : (cut : Bool) (most : ℕ) (ws more : List (List ℕ)) → AreWithin most ws → AreWithin most more → AreWithin most (cond cut ([] ∷ ws) more)
+cut_by true most ws more a b = (omega arith, a)
+cut_by false most ws more a b = b
+
+pieces_within : (p : ℕ → Bool) (xs : List ℕ) (most : ℕ) → length xs ≤ most → AreWithin most (slice_split p xs)
+pieces_within p [] most le = (omega arith, tt)
+pieces_within p (x ∷ xs) zero le = absurd (omega (arith, le))
+pieces_within p (x ∷ xs) (suc most) le =
+    let all = pieces_within p xs most (omega (arith, le)) in
+    cut_by (p x) (suc most) (slice_split p xs) (onto_first x (slice_split p xs)) (wider most (slice_split p xs) all) (within_first most x (slice_split p xs) all)
+
+kept_by : (keep : Bool) (most : ℕ) (w : List ℕ) (ws : List (List ℕ)) → length w ≤ most → AreWithin most ws → AreWithin most (cond keep (w ∷ ws) ws)
+kept_by true most w ws a all = (a, all)
+kept_by false most w ws a all = all
+
+kept_within : (p : List ℕ → Bool) (most : ℕ) (ws : List (List ℕ)) → AreWithin most ws → AreWithin most (filter p ws)
+kept_within p most [] all = tt
+kept_within p most (w ∷ ws) all = kept_by (p w) most w (filter p ws) all.0 (kept_within p most ws all.1)
+
+front_within : (n most : ℕ) (ws : List (List ℕ)) → AreWithin most ws → AreWithin most (take n ws)
+front_within zero most ws all = tt
+front_within (suc n) most [] all = tt
+front_within (suc n) most (w ∷ ws) all = (all.0, front_within n most ws all.1)
+
+last_by : (empty : Bool) (n most : ℕ) (ws : List (List ℕ)) → AreWithin most ws → AreWithin most (cond empty (take n ws) ws)
+last_by true n most ws all = front_within n most ws all
+last_by false n most ws all = all
+
+lines_within : (text : List ℕ) (most : ℕ) → length text ≤ most → AreWithin most (lines_of text)
+lines_within text most le = last_by _ _ most (slice_split (λ b. nat_eq b 10) text) (pieces_within (λ b. nat_eq b 10) text most le)
+
+stripped_by : (b : Bool) (n most : ℕ) (l : List ℕ) → length l ≤ most → length (cond b (take n l) l) ≤ most
+stripped_by true n most l le = let t = length-take n l in omega (arith, t, le)
+stripped_by false n most l le = le
+
+words_within : (line : List ℕ) (most : ℕ) → length line ≤ most → AreWithin most (words_of (strip_carriage_return line))
+words_within line most le =
+    kept_within is_not_empty most (slice_split (λ b. nat_eq b 32) (strip_carriage_return line)) (pieces_within (λ b. nat_eq b 32) (strip_carriage_return line) most (stripped_by _ _ most line le))
+
+each_short : (ws : List (List ℕ)) → AreWithin 16777216 ws → AreShort ws
+each_short [] all i = omega arith
+each_short (w ∷ ws) all zero = all.0
+each_short (w ∷ ws) all (suc i) = each_short ws all.1 i
+
+rest_short : (ws : List (List ℕ)) → AreWithin 16777216 ws → AreShort (drop 1 ws)
+rest_short [] all = each_short [] tt
+rest_short (w ∷ ws) all = each_short ws all.1
+
+-- ---- one line
+
+also : {A : Type 0} (r : Result A Refusal) (P Q : A → Type 0) → IfOk r P → IfOk r Q → IfOk r (λ x. P x × Q x)
+also (Ok x) P Q p q = (p, q)
+also (Err e) P Q p q = tt
+
+carried_is : (before : List Said) (s : Said) → Accepts before s → IsSaid (header_of before).version s → IfOk (carried before s) (IsCarried before)
+unfolding carried
+carried_is before s a g =
+    bind (wants (nat_le (weight_of (before ++ s ∷ [])) 268435456) why.TooLarge) _ (λ _. nat_le (weight_of (before ++ s ∷ [])) 268435456 ≡ true) (IsCarried before) (wanted _ why.TooLarge) (λ u light.
+    bind (wants (is_placed before s) why.Room) _ (λ _. is_placed before s ≡ true) (IsCarried before) (wanted _ why.Room) (λ v placed.
+    record { accepts = a; good = g; light = leb-true (weight_of (before ++ s ∷ [])) 268435456 light; placed = placed }))
+
+words_carried : (before : List Said) (n : ℕ) (first : List ℕ) (ws : List (List ℕ)) → 1 ≤ n → AreShort ws → IfOk (words_say before n first ws) (IsCarried before)
+unfolding words_say
+words_carried before n first ws le short =
+    bind (words_mean before n first ws) _ (λ s. Accepts before s × IsSaid (header_of before).version s) (IsCarried before)
+    (also (words_mean before n first ws) (Accepts before) (IsSaid (header_of before).version) (words_in before n first ws le) (words_good before n first ws short)) (λ s both. carried_is before s both.0 both.1)
+
+-- what is kept from line to line
+abbrev pub IsKept : List Said → Type 0
+IsKept lines = IsSound lines × IsHeard lines
+
+some_or_none : (b : Bool) (before : List Said) (r : Result Said Refusal) → IsKept before → IfOk r (IsCarried before) → IfOk (cond b (Ok before) (r >>= λ new. Ok (before ++ new ∷ []))) IsKept
+some_or_none true before r i a = i
+some_or_none false before r i a = bind r _ (IsCarried before) IsKept a (λ s c. (sound_more before s i.0 c.accepts, heard_more before s i.0 i.1 c))
+
+all_kept : (before : List Said) (n : ℕ) (ws : List (List ℕ)) → 1 ≤ n → AreWithin 16777216 ws → IsKept before → IfOk (all_say before n ws) IsKept
+unfolding all_say
+all_kept before n ws le short i =
+    some_or_none (nat_eq (length ws) 0 || nat_eq (slice_index (word ws 0) 0) 35) before (words_say before n (word ws 0) (drop 1 ws)) i (words_carried before n (word ws 0) (drop 1 ws) le (rest_short ws short))
+
+line_kept : (before : List Said) (n : ℕ) (text : List ℕ) → 1 ≤ n → length text ≤ 16777216 → IsKept before → IfOk (line_says before n text) IsKept
+unfolding line_says
+line_kept before n text le short i =
+    bind (wants (list_all is_plain_byte (strip_carriage_return text)) why.BadByte) _ Any IsKept (any (wants (list_all is_plain_byte (strip_carriage_return text)) why.BadByte))
+    (λ u _. all_kept before n (words_of (strip_carriage_return text)) le (words_within text 16777216 short) i)
+
+-- ---- the whole text
+
+at_kept : (n : ℕ) (r : Result (List Said) Refusal) (f : List Said → Result (List Said) (ℕ × Refusal)) → IfOk r IsKept → ((x : List Said) → IsKept x → IfOk (f x) IsKept) → IfOk (at_line n r f) IsKept
+at_kept n (Ok x) f q h = h x q
+at_kept n (Err w) f q h = tt
+
+lines_kept : (before : List Said) (n : ℕ) (ls : List (List ℕ)) → 1 ≤ n → AreWithin 16777216 ls → IsKept before → IfOk (lines_say before n ls) IsKept
+unfolding lines_say
+lines_kept before n [] le short i = i
+lines_kept before n (t ∷ ls) le short i =
+    at_kept n (line_says before n t) _ (line_kept before n t le short.0 i) (λ now k. lines_kept now (n + 1) ls (omega arith) short.1 k)
+
+ended_kept : (b : Bool) (lines : List Said) (e : ℕ × Refusal) → IsKept lines → IfOk (cond b (Ok lines) (Err e)) IsKept
+ended_kept true lines e h = h
+ended_kept false lines e h = tt
+
+to_end_kept : (count : ℕ) (r : Result (List Said) (ℕ × Refusal)) → IfOk r IsKept → IfOk (to_end count r) IsKept
+to_end_kept count (Ok lines) h = ended_kept (is_end (last_of lines)) lines (count + 1, why.NoEnd) h
+to_end_kept count (Err e) h = tt
+
+text_kept : (text : List ℕ) → IfOk (text_says text) IsKept
+unfolding text_says
+text_kept text = elim (cases_lt 16777216 (length text)) [
+  | inl lt ↦ rw (lt-ltb 16777216 (length text) lt) tt
+  | inr le ↦
+      rw (le-ltb 16777216 (length text) le)
+      (to_end_kept (length (lines_of text)) (lines_say [] 1 (lines_of text)) (lines_kept [] 1 (lines_of text) (omega arith) (lines_within text 16777216 le) (nothing_sound, heard_none)))
+]
+
+-- a scenario that some lines gave
+pub record IsGiven (p : Plan) : Type 0 where
+  pub lines : List Said
+  pub plan_is : plan_with (header_of lines) (parts_of lines) ≡ p
+  pub heard : IsHeard lines
+
+given : (r : Result (List Said) (ℕ × Refusal)) → IfOk r IsKept → IfOk (plan_or r) IsGiven
+unfolding plan_of
+given (Ok lines) h = record { lines = lines; plan_is = refl; heard = h.1 }
+given (Err e) h = tt
+
+pub text_is_given : (text : List ℕ) (p : Plan) → reads text ≡ Ok p → IsGiven p
+text_is_given text p e = let h = given (text_says text) (text_kept text) in rw e at h

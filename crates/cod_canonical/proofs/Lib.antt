@@ -1,0 +1,13 @@
+pub mod Texts
+pub mod Fields
+pub mod Datas
+pub mod Steps
+pub mod ClientLines
+pub mod HeaderLines
+pub mod Weights
+pub mod Phases
+pub mod Endings
+pub mod Spoken
+pub mod Accepted
+pub mod Canonical
+pub mod Written
