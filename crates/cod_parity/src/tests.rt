@@ -331,7 +331,8 @@ fn ticks_shrink_to_the_floor(rt: HostRuntime) -> Result<(), Fail> {
     Ok(())
 }
 
-// Each call of the region fails once: a put, two appends, a read, an append that merges, a merge and the cut of a tick.
+// Each call of the region fails once: a put, two appends, a read, an append that merges, a merge and the cut of a tick, and then
+// both calls of the merge in a tick and its cut.
 #[test]
 fn each_failed_call_is_answered(rt: HostRuntime) -> Result<(), Fail> {
     let shape = Geometry::new(4, 2, 1, 1, 50, 1, 10_000);
@@ -352,23 +353,27 @@ fn each_failed_call_is_answered(rt: HostRuntime) -> Result<(), Fail> {
         Tick,
         Tick,
     ];
-    // the failed call, the step it was in, the reads and the writes
-    let rows = [
-        (0u64, 0usize, 0u64, 1u64),
-        (1, 1, 0, 2),
-        (2, 3, 0, 3),
-        (3, 5, 1, 3),
-        (4, 6, 2, 3),
-        (5, 6, 2, 4),
-        (6, 6, 2, 5),
-        (7, 8, 3, 5),
-        (8, 8, 3, 6),
-        (9, 10, 3, 6),
+    let ticking = [Put(7), Append(0, 1, 1, 1, [0, 4]), Commit(0), Tick];
+    // the steps, the failed call, the step it was in, the reads and the writes
+    let rows: [(&[Step], u64, usize, u64, u64); 13] = [
+        (&script, 0, 0, 0, 1),
+        (&script, 1, 1, 0, 2),
+        (&script, 2, 3, 0, 3),
+        (&script, 3, 5, 1, 3),
+        (&script, 4, 6, 2, 3),
+        (&script, 5, 6, 2, 4),
+        (&script, 6, 6, 2, 5),
+        (&script, 7, 8, 3, 5),
+        (&script, 8, 8, 3, 6),
+        (&script, 9, 10, 3, 6),
+        (&ticking, 2, 3, 1, 2),
+        (&ticking, 3, 3, 1, 3),
+        (&ticking, 4, 3, 1, 3),
     ];
-    for (call, step, reads, writes) in rows {
+    for (steps, call, step, reads, writes) in rows {
         let shelf = FaultyShelf::new(rt.alloc(), &[(NodeId(0), call)])?;
         let mut column = column_on(rt.alloc(), &shelf, g)?;
-        assert_eq!(rt; run(&mut column, g, &script).0, step);
+        assert_eq!(rt; run(&mut column, g, steps).0, step);
         let region = column.region();
         assert_eq!(rt;
             (region.reads(), region.writes(), region.faults()),
