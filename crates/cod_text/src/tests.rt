@@ -124,6 +124,14 @@ fn rebuilds(rt: HostRuntime) -> Result<(), Fail> {
     Ok(())
 }
 
+/// One reason more, where there is room for it.
+fn add_reason(reasons: &mut Reasons, node: u8, why: Why) {
+    if reasons.as_slice().len() < 64 {
+        let node = NodeId(node);
+        reasons.push(Reason { node, why });
+    }
+}
+
 #[test]
 fn reasons_without_a_spare(rt: HostRuntime) -> Result<(), Fail> {
     let alloc = rt.alloc();
@@ -131,15 +139,9 @@ fn reasons_without_a_spare(rt: HostRuntime) -> Result<(), Fail> {
     let said = answered(2, 0, Call::Rebuild, Reply::NoSpare(Reasons::new(alloc)?));
     assert!(rt; prints(alloc, &names, said, "2 s a 0 rebuild -> nospare\n"));
     let mut reasons = Reasons::new(alloc)?;
-    let whys = [(4u8, Why::Down(11)), (0, Why::Free(1)), (63, Why::Fault(2))];
-    for (node, why) in whys {
-        if reasons.as_slice().len() < 64 {
-            reasons.push(Reason {
-                node: NodeId(node),
-                why,
-            });
-        }
-    }
+    add_reason(&mut reasons, 4, Why::Down(11));
+    add_reason(&mut reasons, 0, Why::Free(1));
+    add_reason(&mut reasons, 63, Why::Fault(2));
     let said = answered(2, 0, Call::Rebuild, Reply::NoSpare(reasons));
     let want = "2 s a 0 rebuild -> nospare 4:down:11 0:free:1 63:fault:2\n";
     assert!(rt; prints(alloc, &names, said, want));
@@ -179,52 +181,86 @@ fn marks(rt: HostRuntime) -> Result<(), Fail> {
     Ok(())
 }
 
+/// A column that was killed, and a merge.
+fn two_entries(alloc: Global) -> Result<Chronicle, OutOfMemory> {
+    let mut chronicle = Chronicle::new(alloc);
+    let down = Entry::Down {
+        stamp: 1,
+        col: 0,
+        node: NodeId(0),
+        cause: Cause::Killed(12),
+    };
+    chronicle.push_link(Link::new(alloc)?, down);
+    let merge = Entry::Call {
+        caller: Caller(0),
+        number: 0,
+        stamp: 2,
+        call: Call::Merge,
+        reply: Reply::Done,
+    };
+    chronicle.push_link(Link::new(alloc)?, merge);
+    Ok(chronicle)
+}
+
+const TWO_ENTRIES: &str = "1 s = down 0 0 killed 12\n2 s a 0 merge -> done\n";
+
 #[test]
 fn lines_of_a_segment(rt: HostRuntime) -> Result<(), Fail> {
     let alloc = rt.alloc();
     let names = Scenario::read(alloc, SCENARIO)?;
-    let mut chronicle = Chronicle::new(alloc);
-    chronicle.push_link(
-        Link::new(alloc)?,
-        Entry::Down {
-            stamp: 1,
-            col: 0,
-            node: NodeId(0),
-            cause: Cause::Killed(12),
-        },
-    );
-    chronicle.push_link(
-        Link::new(alloc)?,
-        Entry::Call {
-            caller: Caller(0),
-            number: 0,
-            stamp: 2,
-            call: Call::Merge,
-            reply: Reply::Done,
-        },
-    );
+    let of = two_entries(alloc)?;
     let mut sink = MemSink::new(alloc, 100, &[])?;
     if names.segments() == 1 {
-        assert!(rt; segment(&mut sink, &names, SegId(0), &chronicle).is_ok());
+        assert!(rt; segment(&mut sink, &names, SegId(0), &of).is_ok());
     }
-    let want = "1 s = down 0 0 killed 12\n2 s a 0 merge -> done\n";
-    assert_eq!(rt; sink.bytes(), want.as_bytes());
-    let mut sink = MemSink::new(alloc, 500, &[])?;
-    let all = [chronicle];
+    assert_eq!(rt; sink.bytes(), TWO_ENTRIES.as_bytes());
+    Ok(())
+}
+
+#[test]
+fn lines_of_all_segments(rt: HostRuntime) -> Result<(), Fail> {
+    let alloc = rt.alloc();
+    let names = Scenario::read(alloc, SCENARIO)?;
+    let all = [two_entries(alloc)?];
+    let mut sink = MemSink::new(alloc, 100, &[])?;
     if names.segments() == 1 {
-        assert!(rt; super::chronicle(&mut sink, &names, &all).is_ok());
+        assert!(rt; chronicle(&mut sink, &names, &all).is_ok());
     }
-    assert_eq!(rt; sink.bytes(), want.as_bytes());
-    let mut sink = MemSink::new(alloc, 500, &[])?;
-    assert!(rt; summary(&mut sink, &all).is_ok());
+    assert_eq!(rt; sink.bytes(), TWO_ENTRIES.as_bytes());
+    Ok(())
+}
+
+/// A chronicle of a column that was moved.
+fn one_move(alloc: Global) -> Result<Chronicle, OutOfMemory> {
+    let mut chronicle = Chronicle::new(alloc);
+    let said = Entry::Move {
+        stamp: 1,
+        col: 0,
+        node: NodeId(4),
+    };
+    chronicle.push_link(Link::new(alloc)?, said);
+    Ok(chronicle)
+}
+
+/// Whether this is the summary of these chronicles.
+fn sums_up(alloc: Global, all: &[Chronicle], want: &str) -> bool {
+    match MemSink::new(alloc, 500, &[]) {
+        Ok(mut sink) => summary(&mut sink, all).is_ok() && sink.bytes() == want.as_bytes(),
+        Err(_) => false,
+    }
+}
+
+#[test]
+fn summary_of_marks(rt: HostRuntime) -> Result<(), Fail> {
+    let all = [two_entries(rt.alloc())?];
     let want =
         "segments 1\ncalls 1 read 0 write 0 put 0 merge 1 tick 0 rebuild 0\nreplies bytes 0 done 1 range 0 long 0 lost 0 whole 0 rebuilt 0 nospare 0 nomem 0\nmarks down 1 up 0\nmoved read 0 written 0\n";
-    assert_eq!(rt; sink.bytes(), want.as_bytes());
+    assert!(rt; sums_up(rt.alloc(), &all, want));
     Ok(())
 }
 
 /// A chronicle of one call that was answered.
-fn answered_alone(alloc: Global, call: Call, reply: Reply) -> Result<Chronicle, OutOfMemory> {
+fn alone(alloc: Global, call: Call, reply: Reply) -> Result<Chronicle, OutOfMemory> {
     let mut chronicle = Chronicle::new(alloc);
     let said = Entry::Call {
         caller: Caller(0),
@@ -238,15 +274,10 @@ fn answered_alone(alloc: Global, call: Call, reply: Reply) -> Result<Chronicle, 
 }
 
 #[test]
-fn summary_of_each_kind(rt: HostRuntime) -> Result<(), Fail> {
+fn summary_of_bytes(rt: HostRuntime) -> Result<(), Fail> {
     let alloc = rt.alloc();
     let put = Call::Put {
         bytes: bytes(alloc, &[1, 2]),
-    };
-    let swap = Call::Swap {
-        off: 0,
-        old: bytes(alloc, &[1]),
-        new: bytes(alloc, &[7, 8, 9]),
     };
     let write = Call::Write {
         off: 0,
@@ -254,32 +285,39 @@ fn summary_of_each_kind(rt: HostRuntime) -> Result<(), Fail> {
     };
     let read = Call::Read { off: 0, len: 2 };
     let told = Reply::Bytes(bytes(alloc, &[1, 2]));
+    let all = [
+        alone(alloc, put, Reply::Done)?,
+        alone(alloc, write, Reply::Long)?,
+        alone(alloc, read, told)?,
+    ];
+    let want =
+        "segments 3\ncalls 3 read 1 write 1 put 1 merge 0 tick 0 rebuild 0\nreplies bytes 1 done 1 range 0 long 1 lost 0 whole 0 rebuilt 0 nospare 0 nomem 0\nmarks down 0 up 0\nmoved read 2 written 2\n";
+    assert!(rt; sums_up(alloc, &all, want));
+    Ok(())
+}
+
+#[test]
+fn summary_of_later_calls(rt: HostRuntime) -> Result<(), Fail> {
+    let alloc = rt.alloc();
+    let swap = Call::Swap {
+        off: 0,
+        old: bytes(alloc, &[1]),
+        new: bytes(alloc, &[7, 8, 9]),
+    };
     let drain = Call::Drain { node: NodeId(0) };
     let shifted = Reply::Shifted {
         col: 0,
         node: NodeId(4),
     };
-    let mut moved = Chronicle::new(alloc);
-    let moves = Entry::Move {
-        stamp: 1,
-        col: 0,
-        node: NodeId(4),
-    };
-    moved.push_link(Link::new(alloc)?, moves);
     let all = [
-        answered_alone(alloc, put, Reply::Done)?,
-        answered_alone(alloc, swap, Reply::Done)?,
-        answered_alone(alloc, write, Reply::Long)?,
-        answered_alone(alloc, read, told)?,
-        answered_alone(alloc, Call::Upgrade, Reply::Done)?,
-        answered_alone(alloc, drain, shifted)?,
-        moved,
+        alone(alloc, swap, Reply::Done)?,
+        alone(alloc, Call::Upgrade, Reply::Done)?,
+        alone(alloc, drain, shifted)?,
+        one_move(alloc)?,
     ];
-    let mut sink = MemSink::new(alloc, 500, &[])?;
-    assert!(rt; summary(&mut sink, &all).is_ok());
     let want =
-        "segments 7\ncalls 6 read 1 write 1 put 1 merge 0 tick 0 rebuild 0\nreplies bytes 1 done 3 range 0 long 1 lost 0 whole 0 rebuilt 0 nospare 0 nomem 0\nmarks down 0 up 0\nmoved read 2 written 5\nswap 1 differs 0\nupgrade 1\ndrain 1 shifted 1 clear 0 moves 1\n";
-    assert_eq!(rt; sink.bytes(), want.as_bytes());
+        "segments 4\ncalls 3 read 0 write 0 put 0 merge 0 tick 0 rebuild 0\nreplies bytes 0 done 2 range 0 long 0 lost 0 whole 0 rebuilt 0 nospare 0 nomem 0\nmarks down 0 up 0\nmoved read 0 written 3\nswap 1 differs 0\nupgrade 1\ndrain 1 shifted 1 clear 0 moves 1\n";
+    assert!(rt; sums_up(alloc, &all, want));
     Ok(())
 }
 

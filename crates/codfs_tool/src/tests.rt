@@ -168,19 +168,66 @@ fn parity_columns(rt: HostRuntime) -> Result<(), Fail> {
     Ok(())
 }
 
+/// With parity columns too: whichever call of the source or of the sink fails, the status says so, and a front of the answer was
+/// taken. A refusal keeps its status, whatever becomes of its line.
+#[test]
+fn parity_faults(rt: HostRuntime) -> Result<(), Fail> {
+    let alloc = rt.alloc();
+    let text = format!(in alloc; "{HEADER}client a\nput s 0102\nwrite s 0 05\nread s 0 2\nend\n")?;
+    for (word, want, ends) in [
+        ("check", "ok segments 1 clients 1 calls 3\n", 0),
+        (
+            "plan",
+            "plan s 0 1 2 3\nnode 0 up taken 1 free 999\nnode 1 up taken 1 free 999\nnode 2 up taken 41 free 959\nnode 3 up taken 41 free 959\nnode 4 up taken 0 free 1000\n",
+            0,
+        ),
+        ("replay", "line 0: notbuilt\n", 3),
+    ] {
+        let words = [String::from_str(alloc, word)?];
+        for call in [0u64, 1] {
+            let mut source = MemSource::new(alloc, text.as_bytes(), 4096, &[call])?;
+            let mut sink = MemSink::new(alloc, 1000, &[])?;
+            let status = tool(alloc, &words, &mut source, &mut sink, MemShelf::new());
+            assert_eq!(rt; status, 4);
+            assert!(rt; sink.bytes().is_empty());
+        }
+        for call in 0..60u64 {
+            let mut source = MemSource::new(alloc, text.as_bytes(), 4096, &[])?;
+            let mut sink = MemSink::new(alloc, 1000, &[call])?;
+            let status = tool(alloc, &words, &mut source, &mut sink, MemShelf::new());
+            let told = if ends == 3 || sink.faults() == 0 {
+                ends
+            } else {
+                5
+            };
+            assert_eq!(rt; status, told);
+            assert!(rt; call > 0 || sink.faults() == 1 && sink.bytes().is_empty());
+            assert!(rt; want.as_bytes().starts_with(sink.bytes()));
+        }
+    }
+    Ok(())
+}
+
 /// Each refused text prints its line and nothing else.
 #[test]
 fn refused_lines(rt: HostRuntime) -> Result<(), Fail> {
     let alloc = rt.alloc();
-    let tails: [(&str, &str); 10] = [
+    let tails: [(&str, &str); 11] = [
         ("client a\nwrite s 0 0\nend\n", "line 11: data\n"),
         ("client a\nread t 0 1\nend\n", "line 11: unknown\n"),
         ("client a\nfail 5\nend\n", "line 11: node\n"),
         ("client a\nread s 0\nend\n", "line 11: count\n"),
         ("client a\nread s x 1\nend\n", "line 11: number\n"),
         ("client a\nput s 00*16777217\nend\n", "line 11: field\n"),
-        ("client a\nput s 0102\nend\nx\n", "line 13: afterend\n"),
-        ("client a\nput s 0102\n", "line 12: noend\n"),
+        (
+            "client a\nput s 0102\nwrite s 0 05\nread s 0 2\n",
+            "line 14: noend\n",
+        ),
+        (
+            "client a\nput s 0102\nwrite s 0 05\nread s 0 2\nend\nx\n",
+            "line 15: afterend\n",
+        ),
+        ("client A\nend\n", "line 10: name\n"),
         ("segment s\nclient a\nend\n", "line 10: twice\n"),
         ("care 2 3\nend\n", "line 10: order\n"),
     ];
@@ -188,11 +235,15 @@ fn refused_lines(rt: HostRuntime) -> Result<(), Fail> {
         let text = format!(in alloc; "{HEADER}{tail}")?;
         assert_eq!(rt; one_word(alloc, "check", text.as_str(), want)?, 3);
     }
-    let texts: [(&str, &str); 6] = [
+    let texts: [(&str, &str); 7] = [
         ("", "line 1: noend\n"),
         ("hello\n", "line 1: word\n"),
         ("block 1\n", "line 1: order\n"),
         ("codfs 1\nnodes 5 1000\ncode 4\t2\n", "line 3: badbyte\n"),
+        (
+            "codfs 1\nnodes 5 1000\ncode 4 2\nblock 1\nupdate 1\nreserve 39\n",
+            "line 6: field\n",
+        ),
         (
             "codfs 1\nnodes 5 82\ncode 4 2\nblock 1\nupdate 1\nreserve 40\nunit 1\nalpha 5000\nsegment s\nsegment t\nsegment u\n",
             "line 11: room\n",
