@@ -29,7 +29,7 @@ use cod_types::OutOfMemory;
 use std::alloc::Global;
 
 /// The statuses of the program.
-const DONE: u8 = 0;
+pub const DONE: u8 = 0;
 
 const BAD_WORDS: u8 = 2;
 
@@ -37,9 +37,9 @@ const REFUSED: u8 = 3;
 
 const SOURCE_FAILED: u8 = 4;
 
-const SINK_FAILED: u8 = 5;
+pub const SINK_FAILED: u8 = 5;
 
-const NO_MEMORY: u8 = 6;
+pub const NO_MEMORY: u8 = 6;
 
 /// Prints a line that says why nothing was done. A sink that fails changes nothing.
 fn refuse<W: Sink>(sink: &mut W, line: &[u8])
