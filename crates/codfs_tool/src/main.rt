@@ -15,43 +15,29 @@ mod printing;
 mod refusing;
 mod running;
 mod slip;
+mod streams;
 #[cfg(test)]
 mod tests;
 mod top;
 
-use cod_io::{StdSink, StdSource};
-use cod_region::MemShelf;
-use std::io::{BufWriter, ErrorKind, Write};
+use std::io::ErrorKind;
 use std::process::ExitCode;
 use std::{env, io};
 
-/// How many bytes go to the standard output at once.
-const BUFFER: usize = 1 << 16;
-
 fn main(rt: HostRuntime) -> ExitCode {
-    let status = over_streams(&rt);
-    ExitCode::from(status.unwrap_or(top::NO_MEMORY))
-}
-
-/// The status of the program over the standard streams; an error is want of memory.
-fn over_streams(rt: &HostRuntime) -> io::Result<u8> {
     let mut words: Vec<String> = Vec::new(rt.alloc());
-    match env::args(rt) {
-        // (words that are no text are no command, as none are)
-        Err(e) if e.kind() == ErrorKind::InvalidData => {}
-        args => {
-            for word in args?.skip(1) {
-                words.push(word)?;
+    match env::args(&rt) {
+        Ok(args) => {
+            for word in args.skip(1) {
+                if words.push(word).is_err() {
+                    return ExitCode::from(top::NO_MEMORY);
+                }
             }
         }
+        // (words that are no text are no command, as none are)
+        Err(e) if e.kind() == ErrorKind::InvalidData => {}
+        Err(_) => return ExitCode::from(top::NO_MEMORY),
     }
-    let mut source = StdSource::new(rt.reader());
-    let mut out = BufWriter::with_capacity(rt.alloc(), BUFFER, io::writer(rt))?;
-    let mut sink = StdSink::new(&mut out);
-    let status = top::tool(rt.alloc(), &words, &mut source, &mut sink, MemShelf::new());
-    // (the last bytes may fail too: nothing is done before they are out)
-    match out.flush() {
-        Err(_) if status == top::DONE => Ok(top::SINK_FAILED),
-        _ => Ok(status),
-    }
+    let status = streams::over(rt.alloc(), &words, rt.reader(), io::writer(&rt));
+    ExitCode::from(status.unwrap_or(top::NO_MEMORY))
 }

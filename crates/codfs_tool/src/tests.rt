@@ -1,5 +1,6 @@
 ghost use Rattle.std.specs.Prelude.{◌≤◌};
 
+use crate::streams::over;
 use crate::top::tool;
 use cod_io::{MemSink, MemSource, Sink, Source};
 use cod_region::{FaultyShelf, MemShelf};
@@ -336,6 +337,28 @@ fn sink_that_fails(rt: HostRuntime) -> Result<(), Fail> {
         assert_eq!(rt; sink.bytes().len(), room as usize);
         assert!(rt; FIRST_PRINTED.as_bytes().starts_with(sink.bytes()));
     }
+    Ok(())
+}
+
+/// Over a writer with this much room: the status, and whether what it took is a front of the first scenario's text.
+fn into_room(alloc: Global, room: &mut [u8]) -> Result<(u8, bool), Fail> {
+    let words = [String::from_str(alloc, "replay")?];
+    let status = over(alloc, &words, FIRST.as_bytes(), &mut room[..])?;
+    let most = room.len().min(FIRST_PRINTED.len());
+    let front = &FIRST_PRINTED.as_bytes()[..most];
+    Ok((status, room.starts_with(front)))
+}
+
+/// All bytes are out when the status is 0: a writer with no room for the last of them fails.
+#[test]
+fn streams_of_std(rt: HostRuntime) -> Result<(), Fail> {
+    let mut room = vec![in rt.alloc(); 0u8; 1000]?;
+    assert_eq!(rt; into_room(rt.alloc(), &mut room)?, (0, true));
+    let mut room = vec![in rt.alloc(); 0u8; FIRST_PRINTED.len()]?;
+    assert_eq!(rt; into_room(rt.alloc(), &mut room)?, (0, true));
+    let mut room = vec![in rt.alloc(); 0u8; FIRST_PRINTED.len() - 1]?;
+    assert_eq!(rt; into_room(rt.alloc(), &mut room)?, (5, true));
+    assert_eq!(rt; into_room(rt.alloc(), &mut [])?, (5, true));
     Ok(())
 }
 
