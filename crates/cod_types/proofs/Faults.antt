@@ -1,5 +1,5 @@
 -- Counts that rise.
-use Rattle.std.proofs.Common.{◌≡◌, ℕ, zero, suc, ◌+◌, ◌-◌, ◌<◌, ◌≤◌, ◌^◌, min, refl, sym, ap, ◌∙◌, arith, add-zero}
+use Rattle.std.proofs.Common.{◌≡◌, ℕ, zero, suc, ◌+◌, ◌≤◌, sym, ap, ◌∙◌, arith}
 use Rattle.cod_types.specs.Faults.{bump, grown, Rose}
 
 -- a count after m and then n more

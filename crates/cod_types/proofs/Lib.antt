@@ -1,2 +1,4 @@
 pub mod Replaced
 pub mod Faults
+pub mod Homes
+pub mod Refusals

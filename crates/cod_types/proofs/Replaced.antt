@@ -1,7 +1,7 @@
 -- Bytes replaced, as a whole list and part by part.
 use Rattle.std.proofs.Common.{◌≡◌, ℕ, suc, zero, ◌+◌, ◌-◌, ◌<◌, ◌≤◌, max, min, length, take, drop, get_or, List, [], ◌∷◌, ◌++◌, refl, sym, ap, ◌∙◌, arith, inl, inr, add-zero}
 use Rattle.std.proofs.lemmas.List.{ext_get_or, get_or_append_left, get_or-append_right, get_or-take, get_or-drop}
-use Rattle.std.proofs.Common.{length-append, length-drop}
+use Rattle.std.proofs.Common.{length-append}
 use Rattle.std.proofs.lemmas.Grind.{common_steps}
 use Rattle.std.proofs.lemmas.Bool.{cases_lt}
 use Rattle.std.proofs.lemmas.Bool.Decides.{nat_tests}
@@ -47,12 +47,14 @@ get_or-overwritten off d b i fits =
     let front : length (take off b) ≡ off = grind (arith, common_steps) in
     let both : length (take off b ++ d) ≡ off + length d = grind (arith, common_steps) in
     elim (cases_lt i off) [
-      | inl before ↦ rw byte_before (get_or_append_left (take off b ++ d) (drop (off + length d) b) 0 i (omega arith) ∙ get_or_append_left (take off b) d 0 i (omega arith) ∙ get_or-take off b i 0 before)
+      | inl before ↦ rw byte_before (get_or_append_left (take off b ++ d) (drop (off + length d) b) 0 i (omega arith) ∙
+          get_or_append_left (take off b) d 0 i (omega arith) ∙ get_or-take off b i 0 before)
       | inr from ↦ elim (cases_lt i (off + length d)) [
         | inl within ↦ rw byte_in (get_or_append_left (take off b ++ d) (drop (off + length d) b) 0 i (omega arith) ∙ get_or-append_right (take off b) d off i 0 front from)
         | inr after ↦
             let e : off + length d + (i - (off + length d)) ≡ i = omega arith in
-            rw byte_after (get_or-append_right (take off b ++ d) (drop (off + length d) b) (off + length d) i 0 both after ∙ get_or-drop (off + length d) b (i - (off + length d)) 0 ∙ ap (λ (n : ℕ). get_or b n 0) e)
+            rw byte_after (get_or-append_right (take off b ++ d) (drop (off + length d) b) (off + length d) i 0 both after ∙
+            get_or-drop (off + length d) b (i - (off + length d)) 0 ∙ ap (λ (n : ℕ). get_or b n 0) e)
       ]
     ]
 
@@ -120,7 +122,8 @@ pub replaced_is_range : (into : List ℕ) (off : ℕ) (b : List ℕ) → off + l
 replaced_is_range into off b fits =
     let n : length (take (length into) (drop off b)) ≡ length into = grind (arith, common_steps) in
     ext_get_or 0 (replaced off into 0 b) (take (length into) (drop off b)) (length-replaced off into 0 b ∙ sym n)
-    (λ i lt. let l = length-replaced off into 0 b in get_or-replaced off into 0 b i (omega arith) ∙ byte_in (off + i) (get_or into i 0) 0 b (omega arith) (omega arith) ∙ (let z : off + i - 0 ≡ off + i = omega arith in ap (λ (n : ℕ). get_or b n 0) z)
+    (λ i lt. let l = length-replaced off into 0 b in get_or-replaced off into 0 b i (omega arith) ∙
+    byte_in (off + i) (get_or into i 0) 0 b (omega arith) (omega arith) ∙ (let z : off + i - 0 ≡ off + i = omega arith in ap (λ (n : ℕ). get_or b n 0) z)
     ∙ sym (get_or-take (length into) (drop off b) i 0 (omega arith) ∙ get_or-drop off b i 0))
 
 -- nothing replaced

@@ -1,5 +1,5 @@
 -- Bytes that are replaced by others, and bytes of which only a range may have changed.
-use Rattle.std.specs.Prelude.{◌≡◌, ℕ, ◌+◌, ◌-◌, ◌&&◌, nat_le, nat_lt, if◌then◌else◌, List, [], ◌∷◌, ◌++◌, length, take, drop, slice_index}
+use Rattle.std.specs.Prelude.{◌≡◌, ℕ, ◌+◌, ◌-◌, ◌&&◌, nat_le, nat_lt, if◌then◌else◌, List, [], ◌∷◌, ◌++◌, length, take, drop, slice_index, Option, Some, None}
 
 -- the old bytes with these in the place of those from off on
 abbrev pub overwritten : (off : ℕ) (bytes old : List ℕ) → List ℕ
@@ -20,3 +20,8 @@ byte_at x byte off bytes = if nat_le off x && nat_lt x (off + length bytes) then
 unfoldable pub replaced : (p : ℕ) (part : List ℕ) (off : ℕ) (bytes : List ℕ) → List ℕ
 replaced p [] off bytes = []
 replaced p (b ∷ bs) off bytes = byte_at p b off bytes ∷ replaced (p + 1) bs off bytes
+
+-- what bytes that stand at a place, where there are any, have at place x; 0 elsewhere
+abbrev pub byte_of : Option (ℕ × List ℕ) → (x : ℕ) → ℕ
+byte_of None x = 0
+byte_of (Some placed) x = byte_at x 0 placed.0 placed.1

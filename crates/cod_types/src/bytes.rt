@@ -1,5 +1,5 @@
 //! Bytes on the heap, seen as a list.
-ghost use Rattle.std.specs.Prelude.{◌≡◌, replicate, length, IfOk};
+ghost use Rattle.std.specs.Prelude.{◌≡◌, ◌<◌, ℕ, replicate, slice_index, IfOk};
 
 use crate::OutOfMemory;
 use std::alloc::{AllocError, Global};
@@ -47,9 +47,10 @@ impl Bytes {
 
     /// The bytes, to be read.
     pub fn as_slice(&self) -> &[u8]
-        ensures { result.now ≡ self.now }
+        ensures same { result.now ≡ self.now }
+        ensures bytes { (i : ℕ) → slice_index self.now i < 256 }
     {
-        self.items.as_slice()
+        as_bytes(self.items.as_slice())
     }
 
     /// The bytes as a `Vec`, without memory.
@@ -58,6 +59,14 @@ impl Bytes {
     {
         self.items
     }
+}
+
+/// The same bytes, each of which is known to be below 256.
+fn as_bytes(items: &[u8]) -> &[u8]
+    ensures same { result.now ≡ items.now }
+    ensures bytes { (i : ℕ) → slice_index items.now i < 256 }
+{
+    items
 }
 
 impl Clone for Bytes {

@@ -27,6 +27,13 @@ impl Cuts {
         Cuts { counts: [0; 16] }
     }
 
+    /// So many updates of each block are committed.
+    pub fn from_counts(counts: [u64; 16]) -> Cuts
+        ensures { result ≡ counts }
+    {
+        Cuts { counts }
+    }
+
     /// The number of committed updates of the block.
     pub fn get(&self, block: u8) -> u64
         requires { block < 16 }

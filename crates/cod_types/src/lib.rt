@@ -6,8 +6,10 @@ mod call;
 mod cuts;
 mod errors;
 mod geometry;
+pub mod laws;
 mod layout;
 mod reasons;
+mod refusing;
 mod shape;
 
 pub use bytes::Bytes;
@@ -17,6 +19,7 @@ pub use errors::{Failed, OutOfMemory};
 pub use geometry::{BadGeometry, Field};
 pub use layout::{LayoutLine, ParityLine};
 pub use reasons::{Reason, Reasons, Why};
+pub use refusing::refusal;
 pub use shape::Geometry;
 
 #[cfg(test)]

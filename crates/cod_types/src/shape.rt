@@ -1,5 +1,6 @@
 //! The numbers of a code and its blocks, within their limits.
 ghost use Rattle.std.specs.Prelude.{◌≡◌, ◌+◌, ◌*◌, ◌≤◌, ◌^◌, ◌<◌, None, Some, IfOk, IfErr};
+ghost use Rattle.cod_types.specs.Columns.{column_size};
 ghost use Rattle.cod_types.specs.Limits.{first_bad, floor, segment_length, shape, record_overhead, IsWithin};
 
 use crate::{BadGeometry, Field};
@@ -35,15 +36,24 @@ impl Clone for Geometry {
 impl Copy for Geometry {}
 
 impl Model for Geometry {
-    ghost use Rattle.cod_types.specs.Limits.{Shape, IsWithin};
+    ghost use Rattle.cod_types.specs.Limits.{Shape, shape, IsWithin};
 
     ghost Value = { Shape };
 
-    ghost view = { λ g. record { version = g.version; n = g.n; k = g.k; block = g.block; update = g.update; reserve = g.reserve; unit = g.unit; alpha = g.alpha } };
+    ghost view = { λ g. shape g.version g.n g.k g.block g.update g.reserve g.unit g.alpha };
 
-    ghost invariant = { λ g. IsWithin (record { version = g.version; n = g.n; k = g.k; block = g.block; update = g.update; reserve = g.reserve; unit = g.unit; alpha = g.alpha }) };
+    ghost invariant = { λ g. IsWithin (shape g.version g.n g.k g.block g.update g.reserve g.unit g.alpha) };
 
-    ghost inverse = { λ g. record { version = g.version; n = g.n; k = g.k; block = g.block; update = g.update; reserve = g.reserve; unit = g.unit; alpha = g.alpha } };
+    ghost inverse = { λ g. record {
+      version = g.version;
+      n = g.n;
+      k = g.k;
+      block = g.block;
+      update = g.update;
+      reserve = g.reserve;
+      unit = g.unit;
+      alpha = g.alpha;
+    } };
 }
 
 impl Geometry {
@@ -193,6 +203,18 @@ impl Geometry {
         ensures most { result ≤ 2 ^ 24 }
     {
         self.k as u32 * self.block
+    }
+
+    /// The bytes of a column: those of a block, and for a parity column its reserved space behind it.
+    pub fn column_size(&self, col: u8) -> u32
+        ensures value { result ≡ column_size self.now col }
+        ensures most { result ≤ 5 * 2 ^ 20 }
+    {
+        if col < self.k {
+            self.block
+        } else {
+            self.block + self.reserve
+        }
     }
 
     /// The least bytes of reserved space.
