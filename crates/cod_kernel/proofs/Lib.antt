@@ -1,3 +1,5 @@
+pub mod Four
 pub mod LookupLaws
 pub mod Places
 pub mod SumLaws
+pub mod Windows

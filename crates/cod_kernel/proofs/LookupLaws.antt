@@ -1,57 +1,71 @@
 -- Products of bytes by look-ups of their halves.
-use Rattle.std.proofs.Common.{◌≡◌, ℕ, ◌+◌, ◌-◌, ◌≤◌, ◌*◌, ◌/◌, ◌%◌, ◌^◌, ◌<◌, Bool, true, false, List, [], ◌∷◌, map, length, get_or, replicate, bit_and, bit_xor, nat_eq, if◌then◌else◌, refl, sym, ap, ap₂, ◌∙◌, arith, w8, Fits}
+use Rattle.std.proofs.Common.{◌≡◌, ℕ, ◌+◌, ◌≤◌, ◌*◌, ◌/◌, ◌%◌, ◌^◌, ◌<◌, List, [], ◌∷◌, ◌++◌, take, drop, map, length, get_or, replicate, bit_and, bit_xor, refl, sym, ap, ap₂, ◌∙◌, arith, w8, Fits}
 use Rattle.std.specs.List.{range_with_len}
-use Rattle.std.specs.Simd.Lanes.{zip2, Each1}
-use Rattle.std.proofs.lemmas.List.{get_or-map, length-map, ext_get_or}
+use Rattle.std.specs.Simd.Lanes.{zip2, chunk, Each1}
+use Rattle.std.proofs.lemmas.List.{get_or-map, length-map, ext_get_or, get_or_append_left, take-take}
 use Rattle.std.proofs.lemmas.List.FromFn.{get_or-map-range_with_len, get_or-range_with_len}
-use Rattle.std.proofs.lemmas.Nat.{and_le_r, xor_lt}
-use Rattle.std.proofs.lemmas.Simd.{Each1-all, Each1-weaker, Each1-zip2, Each2-splat, Each1-get_or, below_from_Fits, length-zip2, swz_l, SwzOk, SwzOk-from_below, length-swz_l, get_or-swz_l_below, zip2-map, zip2_splat, map-map}
-use Rattle.std.proofs.lemmas.Bool.Decides.{nat_tests}
+use Rattle.std.proofs.lemmas.Nat.{and_le_r}
+use Rattle.std.proofs.lemmas.Simd.{Each1-all, Each1-weaker, Each1-zip2, Each2-splat, Each1-get_or, below_from_Fits, length-zip2, swz_l, SwzOk, SwzOk-from_below, length-swz_l, get_or-swz_l_below}
+use Rattle.std.proofs.lemmas.Simd.{zip2-map, zip2_splat}
 use Rattle.cod_field.specs.Field.{product, terms, twice}
-use Rattle.cod_field.proofs.Laws.{product_add, product_assoc, product_zero, product_one, product_two, product_lt}
-use Rattle.cod_kernel.specs.Lookups.{half_products}
-use Rattle.cod_kernel.specs.declared.TheConstants.{HAS_1, HAS_2, HAS_4, HAS_8}
+use Rattle.cod_field.proofs.Laws.{product_add, product_assoc, product_lt}
+use Rattle.cod_kernel.specs.Lookups.{half_products, row, two_times}
+use Rattle.cod_kernel.specs.declared.products.TheConstants.{HALVES}
 
 abbrev pub down : ℕ → ℕ → ℕ
 down a b = a / 2 ^ b
 
-abbrev pub IsVector : List ℕ → Type 0
-IsVector v = (length v ≡ 64) × Each1 (Fits w8) v
+abbrev pub IsVector : ℕ → List ℕ → Type 0
+IsVector n v = (length v ≡ n) × Each1 (Fits w8) v
 
--- ---- the positions that are looked up
+-- ---- the positions that are looked up, in a vector of b groups of 16
 
-pub low_ok : (v : List ℕ) → IsVector v → SwzOk w8 16 64 0 (zip2 bit_and v (replicate 64 15))
-low_ok v fits =
+pub low_ok : (b n : ℕ) → n ≡ b * 16 → length (replicate {A = ℕ} n 15) ≡ n → (v : List ℕ) → IsVector n v → SwzOk w8 16 n 0 (zip2 bit_and v (replicate n 15))
+low_ok b n e long v fits =
     let small = Each1-all (λ a. bit_and a 15 < 16) (λ a. omega (arith, and_le_r a 15)) v in
-    SwzOk-from_below w8 16 4 64 0 (zip2 bit_and v (replicate 64 15)) refl (omega (arith, length-zip2 bit_and v (replicate 64 15) fits.0))
-    (Each1-zip2 bit_and (λ j. j < 16) v (replicate 64 15) (Each2-splat (λ a b. bit_and a b < 16) v 64 15 small))
+    SwzOk-from_below w8 16 b n 0 (zip2 bit_and v (replicate n 15)) e (omega (arith, long, length-zip2 bit_and v (replicate n 15) (omega (arith, long, fits.0))))
+    (Each1-zip2 bit_and (λ j. j < 16) v (replicate n 15) (Each2-splat (λ a b. bit_and a b < 16) v n 15 small))
 
-pub high_ok : (v : List ℕ) → IsVector v → SwzOk w8 16 64 0 (zip2 down v (replicate 64 4))
-high_ok v fits =
+pub high_ok : (b n : ℕ) → n ≡ b * 16 → length (replicate {A = ℕ} n 4) ≡ n → (v : List ℕ) → IsVector n v → SwzOk w8 16 n 0 (zip2 down v (replicate n 4))
+high_ok b n e long v fits =
     let small = Each1-weaker (λ a. a < 256) (λ a. a / 16 < 16) (λ a h. omega arith) v (below_from_Fits w8 v fits.1) in
-    SwzOk-from_below w8 16 4 64 0 (zip2 down v (replicate 64 4)) refl (omega (arith, length-zip2 down v (replicate 64 4) fits.0))
-    (Each1-zip2 down (λ j. j < 16) v (replicate 64 4) (Each2-splat (λ a b. down a b < 16) v 64 4 small))
+    SwzOk-from_below w8 16 b n 0 (zip2 down v (replicate n 4)) e (omega (arith, long, length-zip2 down v (replicate n 4) (omega (arith, long, fits.0))))
+    (Each1-zip2 down (λ j. j < 16) v (replicate n 4) (Each2-splat (λ a b. down a b < 16) v n 4 small))
 
 -- ---- what is found there
 
-half_products_at : (c lane : ℕ) → lane < 64 → get_or (half_products c) lane 0 ≡ product c (lane % 16)
-unfolding half_products
-half_products_at c lane h = get_or-map-range_with_len (λ i. product c (i % 16)) 0 64 lane lane 0 h (omega arith)
+-- each group of 16 lanes holds the products of c with the places in the group
+abbrev pub HasProducts : (c n : ℕ) → List ℕ → Type 0
+HasProducts c n table = (place : ℕ) → place < n → get_or table place 0 ≡ product c (place % 16)
 
-looked_up : (c : ℕ) (g : ℕ → ℕ) (v js : List ℕ) → IsVector v → js ≡ map g v → ((x : ℕ) → x < 256 → g x < 16)
-    → swz_l w8 16 (half_products c) 0 js ≡ map (λ x. product c (g x)) v
-looked_up c g v js fits e small =
-    let long : length js ≡ 64 = ap length e ∙ length-map v g ∙ fits.0 in
-    ext_get_or 0 _ _ (length-swz_l w8 16 (half_products c) 0 js ∙ long ∙ sym (length-map v (λ x. product c (g x)) ∙ fits.0)) (λ i h.
-    let lt : i < 64 = omega (arith, length-swz_l w8 16 (half_products c) 0 js) in
+pub narrow_products : (c : ℕ) → HasProducts c 16 (half_products c)
+unfolding half_products
+narrow_products c place h =
+    let same : place ≡ place % 16 = omega arith in
+    get_or-map-range_with_len (product c) 0 16 place place 0 h (omega arith) ∙ ap (product c) same
+
+pub wide_products : (c : ℕ) → HasProducts c 32 (two_times (half_products c))
+unfolding two_times
+wide_products c place h =
+    let within : place % 16 < 16 = omega arith in
+    let same : place % 16 % 16 ≡ place % 16 = omega arith in
+    get_or-map-range_with_len (λ p. get_or (half_products c) (p % 16) 0) 0 32 place place 0 h (omega arith)
+    ∙ narrow_products c (place % 16) within ∙ ap (product c) same
+
+looked_up : (b n c : ℕ) (table : List ℕ) (g : ℕ → ℕ) (v js : List ℕ) → n ≡ b * 16 → HasProducts c n table → IsVector n v → js ≡ map g v
+    → ((x : ℕ) → x < 256 → g x < 16) → swz_l w8 16 table 0 js ≡ map (λ x. product c (g x)) v
+looked_up b n c table g v js groups has fits e small =
+    let long : length js ≡ n = ap length e ∙ length-map v g ∙ fits.0 in
+    ext_get_or 0 _ _ (length-swz_l w8 16 table 0 js ∙ long ∙ sym (length-map v (λ x. product c (g x)) ∙ fits.0)) (λ i h.
+    let lt : i < n = omega (arith, length-swz_l w8 16 table 0 js) in
     let within : i < length v = omega (arith, fits.0) in
     let fit : get_or v i 0 < 256 = Each1-get_or (λ x. x < 256) v i 0 within (below_from_Fits w8 v fits.1) in
     let is : get_or js i 0 ≡ g (get_or v i 0) = ap (λ l. get_or l i 0) e ∙ get_or-map g v i 0 0 within in
     let below : get_or js i 0 < 16 = omega (arith, small (get_or v i 0) fit) in
-    let inside : 16 * ((0 + i) / 16) + get_or js i 0 < 64 = omega arith in
+    let inside : 16 * ((0 + i) / 16) + get_or js i 0 < n = omega arith in
     let place : (16 * ((0 + i) / 16) + get_or js i 0) % 16 ≡ g (get_or v i 0) = omega arith in
-    get_or-swz_l_below w8 16 (half_products c) 0 js i (omega arith) below
-    ∙ half_products_at c (16 * ((0 + i) / 16) + get_or js i 0) inside
+    get_or-swz_l_below w8 16 table 0 js i (omega arith) below
+    ∙ has (16 * ((0 + i) / 16) + get_or js i 0) inside
     ∙ ap (product c) place
     ∙ sym (get_or-map (λ x. product c (g x)) v i 0 0 within))
 
@@ -80,154 +94,62 @@ map_bytes : (f g : ℕ → ℕ) (v : List ℕ) → Each1 (Fits w8) v → ((x : �
 map_bytes f g [] fits h = refl
 map_bytes f g (x ∷ v) fits h = ap₂ (λ (a : ℕ) (rest : List ℕ). a ∷ rest) (h x fits.0.fits) (map_bytes f g v fits.1 h)
 
-pub products_by_halves : (c : ℕ) (low high v : List ℕ) → c < 256 → IsVector v → low ≡ half_products c → high ≡ half_products (product c 16)
-    → zip2 bit_xor (swz_l w8 16 low 0 (zip2 bit_and v (replicate 64 15))) (swz_l w8 16 high 0 (zip2 down v (replicate 64 4))) ≡ map (product c) v
-products_by_halves c low high v hc fits is_low is_high =
+pub products_by_halves : (b n c : ℕ) (low high v : List ℕ) → n ≡ b * 16 → c < 256 → IsVector n v → HasProducts c n low → HasProducts (product c 16) n high
+    → zip2 bit_xor (swz_l w8 16 low 0 (zip2 bit_and v (replicate n 15))) (swz_l w8 16 high 0 (zip2 down v (replicate n 4))) ≡ map (product c) v
+products_by_halves b n c low high v groups hc fits has_low has_high =
     ap₂ (zip2 bit_xor)
-    (ap (λ t. swz_l w8 16 t 0 (zip2 bit_and v (replicate 64 15))) is_low
-    ∙ looked_up c (λ x. bit_and x 15) v _ fits (zip2_splat bit_and v 64 15 fits.0) (λ x h. omega (arith, and_le_r x 15)))
-    (ap (λ t. swz_l w8 16 t 0 (zip2 down v (replicate 64 4))) is_high
-    ∙ looked_up (product c 16) (λ x. x / 2 ^ 4) v _ fits (zip2_splat down v 64 4 fits.0) (λ x h. omega arith))
+    (looked_up b n c low (λ x. bit_and x 15) v _ groups has_low fits (zip2_splat bit_and v n 15 fits.0) (λ x h. omega (arith, and_le_r x 15)))
+    (looked_up b n (product c 16) high (λ x. x / 2 ^ 4) v _ groups has_high fits (zip2_splat down v n 4 fits.0) (λ x h. omega arith))
     ∙ zip2-map bit_xor (λ x. product c (bit_and x 15)) (λ x. product (product c 16) (x / 2 ^ 4)) v
     ∙ map_bytes _ _ v fits.1 (λ x h. product_by_halves c x hc h)
 
--- ---- doublings
+-- ---- the rows of the table, at every scalar
 
-pub doubled_low : (a : ℕ) → a < 128 → (a + a) % 2 ^ 8 ≡ twice a
-unfolding twice
-doubled_low a h = grind (arith, nat_tests)
+low_each : map (λ c. zip2 bit_xor (row (bit_and c 15)) (row (16 + c / 2 ^ 4))) (range_with_len 0 256) ≡ map half_products (range_with_len 0 256)
+unfolding row half_products product terms twice
+low_each = refl
 
-pub doubled_high : (a : ℕ) → 128 ≤ a → a < 256 → bit_xor ((a + a) % 2 ^ 8) 29 ≡ twice a
-unfolding twice
-doubled_high a h g =
-    let shifted : (a + a) % 2 ^ 8 ≡ 2 * a - 256 = omega arith in
-    rw shifted (grind (arith, nat_tests))
+high_each : map (λ c. zip2 bit_xor (row (16 + bit_and c 15)) (row (32 + c / 2 ^ 4))) (range_with_len 0 256)
+    ≡ map (λ c. half_products (product c 16)) (range_with_len 0 256)
+unfolding row half_products product terms twice
+high_each = refl
 
-product_doubled : (c n m : ℕ) → c < 256 → n < 256 → product n 2 ≡ m → twice (product c n) ≡ product c m
-product_doubled c n m hc hn e =
-    sym (product_two (product c n) (product_lt c n hc))
-    ∙ product_assoc c n 2 hc hn (omega arith)
-    ∙ ap (product c) e
+-- two functions with the same value at every byte
+same_at_bytes : (f g : ℕ → List ℕ) → map f (range_with_len 0 256) ≡ map g (range_with_len 0 256) → (c : ℕ) → c < 256 → f c ≡ g c
+same_at_bytes f g e c h =
+    sym (get_or-map-range_with_len f 0 256 c c [] h (omega arith))
+    ∙ ap (λ (t : List (List ℕ)). get_or t c []) e
+    ∙ get_or-map-range_with_len g 0 256 c c [] h (omega arith)
 
-two_doubled : product 2 2 ≡ 4
-unfolding product terms twice
-two_doubled = refl
+pub low_rows : (c : ℕ) → c < 256 → zip2 bit_xor (row (bit_and c 15)) (row (16 + c / 2 ^ 4)) ≡ half_products c
+low_rows = same_at_bytes _ _ low_each
 
-four_doubled : product 4 2 ≡ 8
-unfolding product terms twice
-four_doubled = refl
+pub high_rows : (c : ℕ) → c < 256 → zip2 bit_xor (row (16 + bit_and c 15)) (row (32 + c / 2 ^ 4)) ≡ half_products (product c 16)
+high_rows = same_at_bytes _ _ high_each
 
-eight_doubled : product 8 2 ≡ 16
-unfolding product terms twice
-eight_doubled = refl
+-- ---- sixteen lanes, two times
 
-pub twofold : (c : ℕ) → c < 256 → twice c ≡ product c 2
-twofold c h = sym (product_two c h)
+abbrev pub TWO_TIMES : List ℕ
+TWO_TIMES = map (λ place. place % 16) (range_with_len 0 32)
 
-pub fourfold : (c : ℕ) → c < 256 → twice (twice c) ≡ product c 4
-fourfold c h = ap twice (twofold c h) ∙ product_doubled c 2 4 h (omega arith) two_doubled
+pub two_times_is : (lanes : List ℕ) → length lanes ≡ 16 → map (λ place. get_or (lanes ++ lanes) place 0) TWO_TIMES ≡ two_times lanes
+unfolding two_times
+two_times_is lanes long =
+    ext_get_or 0 _ _ refl (λ k h.
+    let lt : k < 32 = h in
+    let within : k % 16 < length lanes = omega arith in
+    get_or-map-range_with_len (λ p. get_or (lanes ++ lanes) (p % 16) 0) 0 32 k k 0 lt (omega arith)
+    ∙ get_or_append_left lanes lanes 0 (k % 16) within
+    ∙ sym (get_or-map-range_with_len (λ p. get_or lanes (p % 16) 0) 0 32 k k 0 lt (omega arith)))
 
-pub eightfold : (c : ℕ) → c < 256 → twice (twice (twice c)) ≡ product c 8
-eightfold c h = ap twice (fourfold c h) ∙ product_doubled c 4 8 h (omega arith) four_doubled
+-- sixteen places of what comes from a place on
+pub chunk_of_rest : (at left : ℕ) (xs : List ℕ) → 16 ≤ left → take 16 (take left (drop at xs)) ≡ chunk at 16 xs
+chunk_of_rest at left xs h = take-take 16 left (drop at xs) h
 
-pub sixteenfold : (c : ℕ) → c < 256 → twice (twice (twice (twice c))) ≡ product c 16
-sixteenfold c h = ap twice (eightfold c h) ∙ product_doubled c 8 16 h (omega arith) eight_doubled
+pub row_is : (number : ℕ) → chunk (16 * number) 16 HALVES ≡ row number
+unfolding row
+row_is number = refl
 
--- ---- the vectors of products
-
--- what a lane holds for one bit of its place in its group
-abbrev pub if_bit : (bit value place : ℕ) → ℕ
-if_bit bit value place = if nat_eq (bit_and place bit) bit then value else 0
-
-masked_each : map (bit_and 255) (range_with_len 0 256) ≡ range_with_len 0 256
-masked_each = refl
-
-masked : (value : ℕ) → value < 256 → bit_and 255 value ≡ value
-masked value h =
-    sym (get_or-map-range_with_len (bit_and 255) 0 256 value value 0 h (omega arith))
-    ∙ ap (λ xs. get_or xs value 0) masked_each
-    ∙ get_or-range_with_len 0 256 value 0 h ∙ omega arith
-
-chosen : (t : Bool) (value : ℕ) → value < 256 → bit_and (if t then 255 else 0) value ≡ (if t then value else 0)
-chosen true value h = masked value h
-chosen false value h = refl
-
-map_same : (f g : ℕ → ℕ) (v : List ℕ) → ((x : ℕ) → f x ≡ g x) → map f v ≡ map g v
-map_same f g [] h = refl
-map_same f g (x ∷ v) h = ap₂ (λ (a : ℕ) (rest : List ℕ). a ∷ rest) (h x) (map_same f g v h)
-
--- the places of the lanes in their groups
-abbrev lanes_of : (ℕ → ℕ) → List ℕ
-lanes_of f = map (λ lane. f (lane % 16)) (range_with_len 0 64)
-
-masked_lanes : (bit value : ℕ) (mask : List ℕ) → length mask ≡ 64 → mask ≡ lanes_of (if_bit bit 255) → value < 256
-    → zip2 bit_and mask (replicate 64 value) ≡ lanes_of (if_bit bit value)
-masked_lanes bit value mask long is h =
-    zip2_splat bit_and mask 64 value long
-    ∙ ap (map (λ m. bit_and m value)) is
-    ∙ map-map (λ m. bit_and m value) (λ lane. if_bit bit 255 (lane % 16)) (range_with_len 0 64)
-    ∙ map_same _ _ (range_with_len 0 64) (λ lane. chosen (nat_eq (bit_and (lane % 16) bit) bit) value h)
-
--- the bit of a place, where the place is below 16
-bits_each : map (λ h. bit_xor (bit_xor (bit_xor (if_bit 1 1 h) (if_bit 2 2 h)) (if_bit 4 4 h)) (if_bit 8 8 h)) (range_with_len 0 16) ≡ range_with_len 0 16
-bits_each = refl
-
-sum_of_bits : (h : ℕ) → h < 16 → bit_xor (bit_xor (bit_xor (if_bit 1 1 h) (if_bit 2 2 h)) (if_bit 4 4 h)) (if_bit 8 8 h) ≡ h
-sum_of_bits h lt =
-    sym (get_or-map-range_with_len (λ x. bit_xor (bit_xor (bit_xor (if_bit 1 1 x) (if_bit 2 2 x)) (if_bit 4 4 x)) (if_bit 8 8 x)) 0 16 h h 0 lt (omega arith))
-    ∙ ap (λ xs. get_or xs h 0) bits_each
-    ∙ get_or-range_with_len 0 16 h 0 lt ∙ omega arith
-
-product_of_choice : (t : Bool) (c value : ℕ) → c < 256 → (if t then product c value else 0) ≡ product c (if t then value else 0)
-product_of_choice true c value h = refl
-product_of_choice false c value h = sym (product_zero c h)
-
-choice_lt : (t : Bool) (value : ℕ) → value < 256 → (if t then value else 0) < 256
-choice_lt true value h = h
-choice_lt false value h = omega arith
-
-sum_of_products : (c h : ℕ) → c < 256 → h < 16
-    → bit_xor (bit_xor (bit_xor (if_bit 1 c h) (if_bit 2 (product c 2) h)) (if_bit 4 (product c 4) h)) (if_bit 8 (product c 8) h) ≡ product c h
-sum_of_products c h hc lt =
-    let t1 = nat_eq (bit_and h 1) 1 in
-    let t2 = nat_eq (bit_and h 2) 2 in
-    let t4 = nat_eq (bit_and h 4) 4 in
-    let t8 = nat_eq (bit_and h 8) 8 in
-    let l1 : if_bit 1 1 h < 256 = choice_lt t1 1 (omega arith) in
-    let l2 : if_bit 2 2 h < 256 = choice_lt t2 2 (omega arith) in
-    let l4 : if_bit 4 4 h < 256 = choice_lt t4 4 (omega arith) in
-    let l8 : if_bit 8 8 h < 256 = choice_lt t8 8 (omega arith) in
-    let l12 : bit_xor (if_bit 1 1 h) (if_bit 2 2 h) < 256 = xor_lt 8 _ _ l1 l2 in
-    let l124 : bit_xor (bit_xor (if_bit 1 1 h) (if_bit 2 2 h)) (if_bit 4 4 h) < 256 = xor_lt 8 _ _ l12 l4 in
-    ap₂ bit_xor
-    (ap₂ bit_xor
-    (ap₂ bit_xor (ap (λ x. if t1 then x else 0) (sym (product_one c hc)) ∙ product_of_choice t1 c 1 hc) (product_of_choice t2 c 2 hc)
-    ∙ sym (product_add c (if_bit 1 1 h) (if_bit 2 2 h) hc l1 l2))
-    (product_of_choice t4 c 4 hc)
-    ∙ sym (product_add c (bit_xor (if_bit 1 1 h) (if_bit 2 2 h)) (if_bit 4 4 h) hc l12 l4))
-    (product_of_choice t8 c 8 hc)
-    ∙ sym (product_add c (bit_xor (bit_xor (if_bit 1 1 h) (if_bit 2 2 h)) (if_bit 4 4 h)) (if_bit 8 8 h) hc l124 l8)
-    ∙ ap (product c) (sum_of_bits h lt)
-
-pub half_products_are : (c : ℕ) → c < 256
-    → zip2 bit_xor (zip2 bit_xor (zip2 bit_xor (zip2 bit_and HAS_1 (replicate 64 c)) (zip2 bit_and HAS_2 (replicate 64 (twice c)))) (zip2 bit_and HAS_4 (replicate 64 (twice (twice c))))) (zip2 bit_and HAS_8 (replicate 64 (twice (twice (twice c)))))
-    ≡ half_products c
-unfolding half_products
-half_products_are c hc =
-    let lanes = range_with_len 0 64 in
-    let f1 = λ (lane : ℕ). if_bit 1 c (lane % 16) in
-    let f2 = λ (lane : ℕ). if_bit 2 (product c 2) (lane % 16) in
-    let f4 = λ (lane : ℕ). if_bit 4 (product c 4) (lane % 16) in
-    let f8 = λ (lane : ℕ). if_bit 8 (product c 8) (lane % 16) in
-    let e1 : zip2 bit_and HAS_1 (replicate 64 c) ≡ map f1 lanes = masked_lanes 1 c HAS_1 refl refl hc in
-    let e2 : zip2 bit_and HAS_2 (replicate 64 (twice c)) ≡ map f2 lanes =
-    ap (λ v. zip2 bit_and HAS_2 (replicate 64 v)) (twofold c hc) ∙ masked_lanes 2 (product c 2) HAS_2 refl refl (product_lt c 2 hc) in
-    let e4 : zip2 bit_and HAS_4 (replicate 64 (twice (twice c))) ≡ map f4 lanes =
-    ap (λ v. zip2 bit_and HAS_4 (replicate 64 v)) (fourfold c hc) ∙ masked_lanes 4 (product c 4) HAS_4 refl refl (product_lt c 4 hc) in
-    let e8 : zip2 bit_and HAS_8 (replicate 64 (twice (twice (twice c)))) ≡ map f8 lanes =
-    ap (λ v. zip2 bit_and HAS_8 (replicate 64 v)) (eightfold c hc) ∙ masked_lanes 8 (product c 8) HAS_8 refl refl (product_lt c 8 hc) in
-    ap₂ (zip2 bit_xor) (ap₂ (zip2 bit_xor) (ap₂ (zip2 bit_xor) e1 e2) e4) e8
-    ∙ ap (λ xs. zip2 bit_xor (zip2 bit_xor xs (map f4 lanes)) (map f8 lanes)) (zip2-map bit_xor f1 f2 lanes)
-    ∙ ap (λ xs. zip2 bit_xor xs (map f8 lanes)) (zip2-map bit_xor (λ lane. bit_xor (f1 lane) (f2 lane)) f4 lanes)
-    ∙ zip2-map bit_xor (λ lane. bit_xor (bit_xor (f1 lane) (f2 lane)) (f4 lane)) f8 lanes
-    ∙ map_same _ _ lanes (λ lane. sum_of_products c (lane % 16) hc (omega arith))
+-- a table with what another has
+pub has_same : (c n : ℕ) (table other : List ℕ) → table ≡ other → HasProducts c n other → HasProducts c n table
+has_same c n table other e has place h = ap (λ t. get_or t place 0) e ∙ has place h

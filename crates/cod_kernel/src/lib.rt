@@ -4,56 +4,28 @@
 //! of the work: a product is looked up by the two halves of a byte, since it is linear in them.
 #![tactic(auto)]
 
-ghost use Rattle.std.specs.Prelude.{◌≡◌, ◌+◌, ◌<◌, ◌≤◌, length, map, bit_xor, slice_index, All};
-ghost use Rattle.std.specs.Simd.Lanes.{zip2, put_chunk, chunk};
-ghost use Rattle.cod_field.specs.Field.{product, twice};
+mod blocks;
+mod laws;
+mod passes;
+mod products;
+mod window;
+
+ghost use Rattle.std.specs.Prelude.{◌≡◌, ◌+◌, ◌≤◌, ◌∷◌, [], length, map, drop, replicate, All};
+ghost use Rattle.std.specs.Simd.Lanes.{chunk};
+ghost use Rattle.cod_field.specs.Field.{product};
 ghost use Rattle.cod_kernel.specs.Sums.{added, added_scaled, added_all_scaled};
-ghost use Rattle.cod_kernel.specs.Lookups.{half_products};
 
-use cod_field::mul;
-use std::simd::prelude::*;
-
-/// The number of lanes of a vector.
-const LANES: usize = 64;
-
-/// Each `HAS_b` is 255 in the lanes whose place in their group of 16 has the bit `b`, else 0.
-const HAS_1: [u8; 64] = [
-    0, 255, 0, 255, 0, 255, 0, 255, 0, 255, 0, 255, 0, 255, 0, 255, 0, 255, 0, 255, 0, 255, 0, 255,
-    0, 255, 0, 255, 0, 255, 0, 255, 0, 255, 0, 255, 0, 255, 0, 255, 0, 255, 0, 255, 0, 255, 0, 255,
-    0, 255, 0, 255, 0, 255, 0, 255, 0, 255, 0, 255, 0, 255, 0, 255,
-];
-
-const HAS_2: [u8; 64] = [
-    0, 0, 255, 255, 0, 0, 255, 255, 0, 0, 255, 255, 0, 0, 255, 255, 0, 0, 255, 255, 0, 0, 255, 255,
-    0, 0, 255, 255, 0, 0, 255, 255, 0, 0, 255, 255, 0, 0, 255, 255, 0, 0, 255, 255, 0, 0, 255, 255,
-    0, 0, 255, 255, 0, 0, 255, 255, 0, 0, 255, 255, 0, 0, 255, 255,
-];
-
-const HAS_4: [u8; 64] = [
-    0, 0, 0, 0, 255, 255, 255, 255, 0, 0, 0, 0, 255, 255, 255, 255, 0, 0, 0, 0, 255, 255, 255, 255,
-    0, 0, 0, 0, 255, 255, 255, 255, 0, 0, 0, 0, 255, 255, 255, 255, 0, 0, 0, 0, 255, 255, 255, 255,
-    0, 0, 0, 0, 255, 255, 255, 255, 0, 0, 0, 0, 255, 255, 255, 255,
-];
-
-const HAS_8: [u8; 64] = [
-    0, 0, 0, 0, 0, 0, 0, 0, 255, 255, 255, 255, 255, 255, 255, 255, 0, 0, 0, 0, 0, 0, 0, 0, 255,
-    255, 255, 255, 255, 255, 255, 255, 0, 0, 0, 0, 0, 0, 0, 0, 255, 255, 255, 255, 255, 255, 255,
-    255, 0, 0, 0, 0, 0, 0, 0, 0, 255, 255, 255, 255, 255, 255, 255, 255,
-];
+use blocks::{Scaled, Sum, times};
+pub use laws::sum_at_each_place;
+use passes::{add_block, add_blocks, set_block, set_blocks};
+pub use window::add_window;
 
 /// Adds each place of `src` to that of `dst`, which has the same length.
 pub fn add(dst: &mut [u8], src: &[u8])
     requires { length dst.old ≡ length src.now }
     ensures { dst.new ≡ added dst.old src.now }
 {
-    let vectors = dst.len() / LANES;
-    'whole: for vector in 0..vectors {
-        let at = vector * LANES;
-        add_lanes(dst, at, u8x64::from_slice(&src[at..]));
-    }
-    'rest: for i in vectors * LANES..dst.len() {
-        dst[i] ^= src[i];
-    }
+    add_block(dst, src)
 }
 
 /// Adds `c` times each place of `src` to that of `dst`, which has the same length.
@@ -61,15 +33,25 @@ pub fn add_scaled(dst: &mut [u8], c: u8, src: &[u8])
     requires { length dst.old ≡ length src.now }
     ensures { dst.new ≡ added_scaled c dst.old src.now }
 {
-    let scaled = Scaled::new(c, src);
-    let vectors = dst.len() / LANES;
-    'whole: for vector in 0..vectors {
-        let at = vector * LANES;
-        add_lanes(dst, at, scaled.lanes(at));
-    }
-    'rest: for i in vectors * LANES..dst.len() {
-        dst[i] ^= scaled.byte(i);
-    }
+    add_block(dst, times(c, src))
+}
+
+/// Adds `c` times each place of `src` to that of `first`, and `d` times it to that of `second`, in one pass.
+pub fn add_scaled_to_both(first: &mut [u8], c: u8, second: &mut [u8], d: u8, src: &[u8])
+    requires first { length first.old ≡ length src.now }
+    requires second { length second.old ≡ length src.now }
+    ensures first { first.new ≡ added_scaled c first.old src.now }
+    ensures second { second.new ≡ added_scaled d second.old src.now }
+{
+    add_blocks(first, times(c, src), second, times(d, src))
+}
+
+/// Sets each place of `dst` to `c` times that of `src`, which has the same length. Nothing of `dst` is read.
+pub fn set_scaled(dst: &mut [u8], c: u8, src: &[u8])
+    requires { length dst.old ≡ length src.now }
+    ensures { dst.new ≡ map (product c) src.now }
+{
+    set_block(dst, times(c, src))
 }
 
 /// Adds each source times its scalar to `dst`, all of one length.
@@ -81,15 +63,66 @@ pub fn add_all_scaled(dst: &mut [u8], scalars: &[u8], sources: &[&[u8]])
     requires same_length { All (λ source. length source.now ≡ length dst.old) sources.now }
     ensures { dst.new ≡ added_all_scaled dst.old scalars.now (map (λ source. source.now) sources.now) }
 {
-    let mut next = 0;
+    add_from(0, dst, scalars, sources)
+}
+
+/// Sets `dst` to the sum of each source times its scalar, all of one length.
+///
+/// The outcome is that of `add_all_scaled` on zeros, and nothing of `dst` is read.
+pub fn set_all_scaled(dst: &mut [u8], scalars: &[u8], sources: &[&[u8]])
+    requires same_count { length scalars.now ≡ length sources.now }
+    requires same_length { All (λ source. length source.now ≡ length dst.old) sources.now }
+    ensures { dst.new ≡ added_all_scaled (replicate (length dst.old) 0) scalars.now (map (λ source. source.now) sources.now) }
+{
+    if sources.len() >= 4 {
+        set_block(dst, four_from(0, scalars, sources));
+        add_from(4, dst, scalars, sources)
+    } else if sources.len() >= 1 {
+        set_block(dst, times(scalars[0], sources[0]));
+        add_from(1, dst, scalars, sources)
+    } else {
+        dst.fill(0)
+    }
+}
+
+/// Sets each of two destinations to the sum of each source times its scalar there, all of one length.
+///
+/// The outcome is that of `set_all_scaled` for each in turn. The first four sources take one pass over both.
+pub fn set_all_scaled_to_both(
+    first: &mut [u8],
+    scalars: &[u8],
+    second: &mut [u8],
+    others: &[u8],
+    sources: &[&[u8]],
+)
+    requires first_count { length scalars.now ≡ length sources.now }
+    requires first_length { All (λ source. length source.now ≡ length first.old) sources.now }
+    requires second_count { length others.now ≡ length sources.now }
+    requires second_length { All (λ source. length source.now ≡ length second.old) sources.now }
+    ensures first { first.new ≡ added_all_scaled (replicate (length first.old) 0) scalars.now (map (λ source. source.now) sources.now) }
+    ensures second { second.new ≡ added_all_scaled (replicate (length second.old) 0) others.now (map (λ source. source.now) sources.now) }
+{
+    if sources.len() < 4 {
+        set_all_scaled(first, scalars, sources);
+        return set_all_scaled(second, others, sources);
+    }
+    let to_first = four_from(0, scalars, sources);
+    let to_second = four_from(0, others, sources);
+    set_blocks(first, to_first, second, to_second);
+    add_from(4, first, scalars, sources);
+    add_from(4, second, others, sources)
+}
+
+/// Adds the sources from `start` on.
+fn add_from(start: usize, dst: &mut [u8], scalars: &[u8], sources: &[&[u8]])
+    requires within { start ≤ length sources.now }
+    requires same_count { length scalars.now ≡ length sources.now }
+    requires same_length { All (λ source. length source.now ≡ length dst.old) sources.now }
+    ensures { dst.new ≡ added_all_scaled dst.old (drop start scalars.now) (map (λ source. source.now) (drop start sources.now)) }
+{
+    let mut next = start;
     'fours: while sources.len() - next >= 4 {
-        add_four_scaled(
-            dst,
-            Scaled::new(scalars[next], sources[next]),
-            Scaled::new(scalars[next + 1], sources[next + 1]),
-            Scaled::new(scalars[next + 2], sources[next + 2]),
-            Scaled::new(scalars[next + 3], sources[next + 3]),
-        );
+        add_block(dst, four_from(next, scalars, sources));
         next += 4;
     }
     'rest: for j in next..sources.len() {
@@ -97,130 +130,30 @@ pub fn add_all_scaled(dst: &mut [u8], scalars: &[u8], sources: &[&[u8]])
     }
 }
 
-/// Adds four blocks that are scaled to `dst` in one pass.
-fn add_four_scaled(dst: &mut [u8], a: Scaled<'_>, b: Scaled<'_>, c: Scaled<'_>, d: Scaled<'_>)
-    requires first { (length a.source.now ≡ length dst.old) × (length b.source.now ≡ length dst.old) }
-    requires last { (length c.source.now ≡ length dst.old) × (length d.source.now ≡ length dst.old) }
-    ensures { dst.new ≡ added_scaled d.entry.products.scalar (added_scaled c.entry.products.scalar
-        (added_scaled b.entry.products.scalar (added_scaled a.entry.products.scalar dst.old
-        a.entry.source.now) b.entry.source.now) c.entry.source.now) d.entry.source.now }
-{
-    let vectors = dst.len() / LANES;
-    'whole: for vector in 0..vectors {
-        let at = vector * LANES;
-        add_lanes(
-            dst,
-            at,
-            a.lanes(at) ^ b.lanes(at) ^ c.lanes(at) ^ d.lanes(at),
-        );
-    }
-    'rest: for i in vectors * LANES..dst.len() {
-        dst[i] ^= a.byte(i) ^ b.byte(i) ^ c.byte(i) ^ d.byte(i);
-    }
-}
+type Pair<'a> = Sum<Scaled<'a>, Scaled<'a>>;
 
-/// Adds a vector to the places from `at` on.
+/// The sum of four sources times their scalars, from `start` on.
 #[inline(always)]
-fn add_lanes(dst: &mut [u8], at: usize, lanes: u8x64)
-    requires { at + LANES ≤ length dst.old }
-    ensures { dst.new ≡ put_chunk at dst.old (zip2 bit_xor (chunk at LANES dst.old) lanes) }
+fn four_from<'a>(start: usize, scalars: &[u8], sources: &[&'a [u8]]) -> Sum<Pair<'a>, Pair<'a>>
+    requires scalars { start + 4 ≤ length scalars.now }
+    requires sources { start + 4 ≤ length sources.now }
+    ensures scalars { (result.first.first.products.scalar ∷ result.first.second.products.scalar
+        ∷ result.second.first.products.scalar ∷ result.second.second.products.scalar ∷ [])
+        ≡ chunk start 4 scalars.now }
+    ensures sources { (result.first.first.source.now ∷ result.first.second.source.now
+        ∷ result.second.first.source.now ∷ result.second.second.source.now ∷ [])
+        ≡ map (λ source. source.now) (chunk start 4 sources.now) }
 {
-    let sum = u8x64::from_slice(&dst[at..]) ^ lanes;
-    sum.copy_to_slice(&mut dst[at..]);
-}
-
-/// The products of a scalar with each half of a byte, for look-ups in groups of 16 lanes.
-#[derive(Clone, Copy)]
-struct Products {
-    scalar: u8,
-    low: u8x64,
-    high: u8x64,
-    ghost of_low_halves: { low ≡ half_products scalar },
-    ghost of_high_halves: { high ≡ half_products (product scalar 16) },
-}
-
-impl Products {
-    #[inline(always)]
-    fn new(c: u8) -> Products
-        ensures { result.scalar ≡ c }
-    {
-        let sixteenfold = doubled(doubled(doubled(doubled(c))));
-        Products {
-            scalar: c,
-            low: half_products(c),
-            high: half_products(sixteenfold),
-        }
+    Sum {
+        first: Sum {
+            first: times(scalars[start], sources[start]),
+            second: times(scalars[start + 1], sources[start + 1]),
+        },
+        second: Sum {
+            first: times(scalars[start + 2], sources[start + 2]),
+            second: times(scalars[start + 3], sources[start + 3]),
+        },
     }
-
-    /// The scalar times each lane.
-    #[inline(always)]
-    fn of(self, lanes: u8x64) -> u8x64
-        ensures { result ≡ map (product self.scalar) lanes }
-    {
-        self.low.swizzle_dyn_within::<16>(lanes & u8x64::splat(15))
-            ^ self.high.swizzle_dyn_within::<16>(lanes >> u8x64::splat(4))
-    }
-}
-
-/// A block times a scalar.
-#[derive(Clone, Copy)]
-struct Scaled<'a> {
-    products: Products,
-    source: &'a [u8],
-}
-
-impl<'a> Scaled<'a> {
-    #[inline(always)]
-    fn new(c: u8, source: &'a [u8]) -> Scaled<'a>
-        ensures scalar { result.products.scalar ≡ c }
-        ensures source { result.source.now ≡ source.now }
-    {
-        Scaled {
-            products: Products::new(c),
-            source,
-        }
-    }
-
-    /// The places from `at` on, as many as a vector has lanes.
-    #[inline(always)]
-    fn lanes(&self, at: usize) -> u8x64
-        requires { at + LANES ≤ length self.now.source.now }
-        ensures { result ≡ map (product self.now.products.scalar) (chunk at LANES self.now.source.now) }
-    {
-        self.products.of(u8x64::from_slice(&self.source[at..]))
-    }
-
-    /// The place `i`.
-    #[inline(always)]
-    fn byte(&self, i: usize) -> u8
-        requires { i < length self.now.source.now }
-        ensures { result ≡ product self.now.products.scalar (slice_index self.now.source.now i) }
-    {
-        mul(self.products.scalar, self.source[i])
-    }
-}
-
-/// `c` times the place of each lane in its group of 16, as the sum of `c` times each bit of it.
-#[inline(always)]
-fn half_products(c: u8) -> u8x64
-    ensures { result ≡ half_products c }
-{
-    let twofold = doubled(c);
-    let fourfold = doubled(twofold);
-    let eightfold = doubled(fourfold);
-    (u8x64::from_array(HAS_1) & u8x64::splat(c))
-        ^ (u8x64::from_array(HAS_2) & u8x64::splat(twofold))
-        ^ (u8x64::from_array(HAS_4) & u8x64::splat(fourfold))
-        ^ (u8x64::from_array(HAS_8) & u8x64::splat(eightfold))
-}
-
-/// Twice a byte, by a choice in place of a jump.
-#[inline(always)]
-fn doubled(a: u8) -> u8
-    ensures { result ≡ twice a }
-{
-    let shifted = a.wrapping_add(a);
-    if a >= 128 { shifted ^ 29 } else { shifted }
 }
 
 #[cfg(test)]
