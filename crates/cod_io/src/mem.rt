@@ -1,5 +1,5 @@
 //! A source and a sink in memory, which fail at the calls that they are told to.
-ghost use Rattle.std.specs.Prelude.{◌≡◌, ◌-◌, ◌<◌, ◌≤◌, ◌↔◌, ◌⊎◌, ◌++◌, [], length, take, drop, min, Some, IfOk, OnErr, IsErr, IsTrue, MatchResult};
+ghost use Rattle.std.specs.Prelude.{◌≡◌, ◌-◌, ◌<◌, ◌≤◌, ◌↔◌, ◌⊎◌, ◌++◌, [], length, take, drop, min, Some, IfOk, OnOk, OnErr, IsErr, IsTrue, MatchResult};
 ghost use Rattle.std.specs.Io.KnownBytes.{append_known, prepend_known, IsAtEnd};
 ghost use Rattle.cod_types.specs.Faults.{bump, HasCause};
 ghost use Rattle.cod_io.specs.Mem.{is_listed};
@@ -89,7 +89,8 @@ impl Source for MemSource {
     }
 }
 
-/// A sink that keeps bytes in memory. It fails exactly at the calls that are listed, and where its room is full.
+/// A sink that keeps bytes in memory. It fails exactly at the calls that are listed, writes and flushes together, and where its
+/// room is full.
 #[derive(Debug, Drop)]
 pub struct MemSink {
     bytes: Vec<u8>,
@@ -137,6 +138,8 @@ impl MemSink {
 impl Sink for MemSink {
     ghost taken = { λ s. Some s.taken };
 
+    ghost arrived = { λ s. Some s.taken };
+
     ghost fault_count = { λ s. s.faults };
 
     /// As many bytes as there is room for.
@@ -161,6 +164,25 @@ impl Sink for MemSink {
             Ok(()) => Ok(n),
             Err(_) => unreachable!(),
         }
+    }
+
+    /// It keeps its bytes where they are, and fails only where the call is listed.
+    fn flush(&mut self) -> Result<(), Failed>
+        ensures same { self.new.taken ≡ self.old.taken }
+        ensures out { OnOk result (Some self.new.taken ≡ Some self.new.taken) }
+        ensures cause { HasCause self.old.faults self.new.faults result }
+
+        ensures listed { IsErr result ↔ IsTrue (is_listed self.old.fails self.old.calls) }
+        ensures kept { OnOk result (self.new ≡ record self.old { calls = bump self.old.calls }) }
+        ensures failed { OnErr result (self.new ≡ record self.old { calls = bump self.old.calls; faults = bump self.old.faults }) }
+    {
+        let listed = self.fails.contains(&self.calls);
+        self.calls = self.calls.saturating_add(1);
+        if listed {
+            self.faults = self.faults.saturating_add(1);
+            return Err(Failed);
+        }
+        Ok(())
     }
 
     fn faults(&self) -> u64 {

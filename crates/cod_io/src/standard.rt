@@ -3,7 +3,7 @@ ghost use Rattle.std.specs.Prelude.{◌≡◌, None};
 
 use crate::{Sink, Source};
 use cod_types::Failed;
-use std::io::{Read, Write};
+use std::io::{ErrorKind, Read, Write};
 use std::marker::Model;
 
 /// A source over a reader of the standard library, seen as how many calls failed.
@@ -35,14 +35,17 @@ impl<R: Read + Drop> Source for StdSource<R> {
 
     ghost fault_count = { λ faults. faults };
 
+    /// A read that was interrupted is made again; every other error is a fault.
     fn read(&mut self, into: &mut [u8]) -> Result<usize, Failed> {
-        match self.from.read(into) {
-            Ok(n) => Ok(n),
-            Err(_) => {
-                self.faults = self.faults.saturating_add(1);
-                Err(Failed)
+        for _ in 0..u64::MAX {
+            match self.from.read(into) {
+                Ok(n) => return Ok(n),
+                Err(e) if e.kind() == ErrorKind::Interrupted => {}
+                Err(_) => break,
             }
         }
+        self.faults = self.faults.saturating_add(1);
+        Err(Failed)
     }
 
     fn faults(&self) -> u64 {
@@ -77,6 +80,8 @@ impl<W: Write + Drop> StdSink<W> {
 impl<W: Write + Drop> Sink for StdSink<W> {
     ghost taken = { λ _. None };
 
+    ghost arrived = { λ _. None };
+
     ghost fault_count = { λ faults. faults };
 
     /// A write that takes nothing counts as a fault.
@@ -84,6 +89,16 @@ impl<W: Write + Drop> Sink for StdSink<W> {
         match self.to.write(from) {
             Ok(n) if 0 < n => Ok(n),
             _ => {
+                self.faults = self.faults.saturating_add(1);
+                Err(Failed)
+            }
+        }
+    }
+
+    fn flush(&mut self) -> Result<(), Failed> {
+        match self.to.flush() {
+            Ok(()) => Ok(()),
+            Err(_) => {
                 self.faults = self.faults.saturating_add(1);
                 Err(Failed)
             }

@@ -1,5 +1,5 @@
 //! A source and a sink of bytes, which may fail.
-ghost use Rattle.std.specs.Prelude.{◌≡◌, ◌<◌, ◌≤◌, ℕ, List, length, take, Option, MatchResult, IfOk};
+ghost use Rattle.std.specs.Prelude.{◌≡◌, ◌<◌, ◌≤◌, ℕ, List, length, take, Option, MatchResult, IfOk, OnOk};
 ghost use Rattle.std.specs.Io.KnownBytes.{append_known, prepend_known, IsAtEnd};
 ghost use Rattle.cod_types.specs.Faults.{HasCause};
 
@@ -32,6 +32,9 @@ pub trait Sink {
     /// The bytes that were taken, where they are told.
     ghost taken: { Self → Option (List ℕ) };
 
+    /// Those of them that have come to where they go, where they are told. The others wait in a buffer.
+    ghost arrived: { Self → Option (List ℕ) };
+
     /// How many calls failed, up to the end of `u64`.
     ghost fault_count: { Self → ℕ };
 
@@ -40,6 +43,12 @@ pub trait Sink {
         requires { 0 < length from.now }
         ensures count { IfOk result (λ n. (0 < n) × (n ≤ length from.now)) }
         ensures bytes { MatchResult result (λ n. taken self.new ≡ append_known (taken self.old) (take n from.now)) (λ _. taken self.new ≡ taken self.old) }
+        ensures cause { HasCause (fault_count self.old) (fault_count self.new) result };
+
+    /// Brings all bytes that were taken to where they go. A call that fails is counted.
+    fn flush(&mut self) -> Result<(), Failed>
+        ensures same { taken self.new ≡ taken self.old }
+        ensures out { OnOk result (arrived self.new ≡ taken self.new) }
         ensures cause { HasCause (fault_count self.old) (fault_count self.new) result };
 
     /// How many calls failed, up to the end of `u64`.
