@@ -4,19 +4,16 @@
 //! The one argument is the number of rounds of each measurement, of which the fastest counts.
 #![tactic(auto)]
 
-mod untold;
-
 ghost use Rattle.std.specs.Prelude.{◌≡◌, ◌+◌, ◌≤◌, false, IfOk, length};
 ghost use Rattle.std.specs.Option.{is_some};
 
-use cod_parity::ParityColumn;
+use cod_parity::{ParityColumn, record_len};
 use cod_record::Head;
-use cod_region::{MemRegion, MemShelf, Shelf};
+use cod_region::{MemRegion, MemShelf, Shelf, Untold};
 use cod_types::{Cuts, Failed, Geometry, NodeId, OutOfMemory};
 use std::alloc::Global;
 use std::time::{Clock, Instant};
 use std::{env, io};
-use untold::Untold;
 
 /// The bytes of an update.
 const UPDATE: usize = 64;
@@ -49,7 +46,7 @@ fn column(alloc: Global, g: Geometry) -> Result<ParityColumn<Untold<MemRegion>>,
 {
     let _columns = g.k(); // the limits of a geometry are told here
     let held = MemShelf::new().region(alloc, NodeId(0), g.block() + g.reserve())?;
-    Ok(ParityColumn::new(g, Untold { held }))
+    Ok(ParityColumn::new(g, Untold::new(held)))
 }
 
 /// Appends the record of an update of block 0, where it fits.
@@ -69,7 +66,7 @@ fn append(
 {
     let _columns = g.k(); // the limits of a geometry are told here
     let len = delta.len();
-    if (g.block() as usize) < len || (column.size() as usize) < 21 + len {
+    if (g.block() as usize) < len || column.size() < record_len(1, coef, delta) {
         return Ok(());
     }
     if scratch.len() < (g.block() + g.reserve()) as usize {

@@ -1,6 +1,6 @@
 //! A board that nobody shares.
-ghost use Rattle.std.specs.Prelude.{◌≡◌, ◌<◌, ◌≤◌, None, IfOk, replicate};
-ghost use Rattle.cod_board.specs.Kills.{kill_of};
+ghost use Rattle.std.specs.Prelude.{◌≡◌, ◌<◌, ◌≤◌, None, IfOk, IfSome, length, replicate};
+ghost use Rattle.cod_board.specs.Kills.{kill_of, HaveLines};
 
 use crate::{Board, Kill};
 use cod_types::{NodeId, OutOfMemory};
@@ -35,6 +35,30 @@ impl PlainBoard {
         Ok(PlainBoard {
             kills: vec![in alloc; None; nodes as usize]?,
         })
+    }
+
+    /// The kill of a node, if there is one.
+    pub fn get(&self, node: NodeId) -> Option<Kill>
+        requires { node.0 < length self.now }
+        ensures value { result ≡ kill_of self.now node.0 }
+        ensures line { IfSome result (λ k. 1 ≤ k.line) }
+    {
+        self.kills[node.0 as usize]
+    }
+
+    /// Its kills, in their place.
+    pub(crate) fn into_kills(self) -> Vec<Option<Kill>>
+        ensures { result.items ≡ self }
+    {
+        self.kills
+    }
+
+    /// A board of these kills.
+    pub(crate) fn of_kills(kills: Vec<Option<Kill>>) -> PlainBoard
+        requires { HaveLines kills.items }
+        ensures { result ≡ kills.items }
+    {
+        PlainBoard { kills }
     }
 }
 

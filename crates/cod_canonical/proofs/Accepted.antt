@@ -1,66 +1,31 @@
 -- What is known of the lines of a text that was accepted.
-use Rattle.std.proofs.Common.{◌≡◌, ℕ, zero, suc, ◌+◌, ◌<◌, ◌≤◌, ◌^◌, Bool, true, false, cond, List, [], ◌∷◌, ◌++◌, length, drop, take, refl, ap, arith, Result, Ok, Err, not, inl, inr, nat_eq}
-use Rattle.std.specs.Prelude.{IfOk, nat_le, ◌||◌, slice_index}
+use Rattle.std.proofs.Common.{◌≡◌, ℕ, zero, suc, ◌+◌, ◌<◌, ◌≤◌, ◌^◌, Bool, true, false, cond, List, [], ◌∷◌, ◌++◌, length, drop, take, refl, arith, Result, Ok, Err, inl, inr, nat_eq}
+use Rattle.std.specs.Prelude.{IfOk, ◌||◌, slice_index}
 use Rattle.std.specs.List.{AllByRecursion, list_all, filter, slice_split, onto_first}
 use Rattle.std.specs.Str.Lines.{strip_carriage_return}
-use Rattle.std.proofs.lemmas.Bool.{cases_lt, leb-true, le-ltb, lt-ltb}
+use Rattle.std.proofs.lemmas.Bool.{cases_lt, le-ltb, lt-ltb}
 use Rattle.std.proofs.lemmas.List.{length-take}
 use Rattle.cod_words.specs.Words.{words_of, lines_of, is_not_empty}
-use Rattle.cod_scenario.specs.declared.line.Line.{Line}
+use Rattle.cod_script.specs.declared.line.Line.{Line}
 use Rattle.cod_scenario.specs.declared.refusal.Refusal.{Refusal}
 use Rattle.cod_scenario.specs.declared.refusal.Refusal.TheVariants as why
 use Rattle.cod_scenario.specs.declared.said.Header.{Header}
 use Rattle.cod_scenario.specs.declared.said.Said.{Said}
 use Rattle.cod_scenario.specs.declared.said.Said.TheVariants as said
-use Rattle.cod_scenario.specs.Plan.{Plan, Client}
-use Rattle.cod_scenario.specs.Lines.{Parts, no_parts, header_of, parts_of, plan_of, plan_with, weight_of, line_weight, with_line, onto_last, noted, has_room}
-use Rattle.cod_scenario.specs.Judge.{◌>>=◌, wants, word, words_mean, carried, is_placed, is_segment, words_say, all_say, line_says, is_plain_byte, at_line, lines_say, to_end, text_says, last_of, is_end}
-use Rattle.cod_scenario.specs.Reads.{reads, plan_or}
-use Rattle.cod_scenario.specs.Reading.{IsSound, Accepts}
-use Rattle.cod_scenario.proofs.Accepting.{bind, Any, any, wanted, words_in}
-use Rattle.cod_scenario.proofs.Gathering.{parts_more}
-use Rattle.cod_scenario.proofs.Soundness.{length_more, sound_more}
-use Rattle.cod_scenario.proofs.Totals.{header_early, header_late, weight_late}
+use Rattle.cod_script.specs.Script.{Script, Client, Body, onto_last}
+use Rattle.cod_scenario.specs.Lines.{no_body, header_of, body_of, script_of, script_with, with_line, noted}
+use Rattle.cod_scenario.specs.Judge.{◌>>=◌, wants, word, words_mean, words_say, all_say, line_says, is_plain_byte, at_line, lines_say, to_end, text_says, last_of}
+use Rattle.cod_scenario.specs.Judge.{is_end}
+use Rattle.cod_scenario.specs.Reads.{reads, script_or}
+use Rattle.cod_scenario.specs.Reading.{AreBefore, IsSaidAt, IsSound}
+use Rattle.cod_scenario.proofs.Accepting.{bind, Any, any, words_in}
+use Rattle.cod_scenario.proofs.Gathering.{body_more, body_none, length_more}
+use Rattle.cod_scenario.proofs.Numbering.{before_wider}
+use Rattle.cod_scenario.proofs.TextSound.{Adds, added}
+use Rattle.cod_scenario.proofs.Totals.{carried_in, header_early, header_late}
 use Rattle.cod_scenario.proofs.Keeping.{nothing_sound}
-use Rattle.cod_canonical.proofs.ClientLines.{IsSpoken, weight_unnumbered}
+use Rattle.cod_canonical.proofs.ClientLines.{IsSpoken}
 use Rattle.cod_canonical.proofs.Spoken.{IsSaid, AreShort, words_good}
-use Rattle.cod_canonical.proofs.Weights.{segments_weight, lines_weight, clients_weight, parts_weight}
-
--- ---- the weight of the parts
-
-segments_push : (h : Header) (names : List (List ℕ)) (name : List ℕ) → segments_weight h (names ++ name ∷ []) ≡ segments_weight h names + line_weight h (said.Segment name)
-unfolding segments_weight
-segments_push h [] name = omega arith
-segments_push h (w ∷ names) name = let r = segments_push h names name in omega (arith, r)
-
-lines_push : (h : Header) (ls : List Line) (l : Line) → lines_weight h (ls ++ l ∷ []) ≡ lines_weight h ls + line_weight h (said.Does 0 l.what)
-unfolding lines_weight
-lines_push h [] l = omega arith
-lines_push h (d ∷ ls) l = let r = lines_push h ls l in omega (arith, r)
-
-clients_push : (h : Header) (cs : List Client) (name : List ℕ) → clients_weight h (cs ++ (record { name = name; lines = [] }) ∷ []) ≡ clients_weight h cs
-unfolding clients_weight lines_weight
-clients_push h [] name = refl
-clients_push h (c ∷ cs) name = let r = clients_push h cs name in omega (arith, r)
-
-clients_onto : (h : Header) (cs : List Client) (l : Line) → clients_weight h (onto_last cs l) ≤ clients_weight h cs + line_weight h (said.Does 0 l.what)
-unfolding clients_weight
-clients_onto h [] l = omega arith
-clients_onto h (c ∷ []) l = let r = lines_push h c.lines l in omega (arith, r)
-clients_onto h (c ∷ d ∷ more) l = let r = clients_onto h (d ∷ more) l in omega (arith, r)
-
-weight_step : (h : Header) (p : Parts) (s : Said) → parts_weight h (with_line p s) ≤ parts_weight h p + line_weight h s
-unfolding parts_weight
-weight_step h p (said.Segment name) = let r = segments_push h p.segments name in omega (arith, r)
-weight_step h p (said.Client name) = let r = clients_push h p.clients name in omega (arith, r)
-weight_step h p (said.Does line what) =
-    let r = clients_onto h p.clients (record { line = line; what = what }) in let w = weight_unnumbered h line what in omega (arith, r, w)
-weight_step h p (said.Care workers rounds) = omega arith
-weight_step h p _ = omega arith
-
-no_weight : (h : Header) → parts_weight h no_parts ≡ 0
-unfolding parts_weight segments_weight clients_weight line_weight
-no_weight h = omega arith
 
 -- ---- the lines of the clients
 
@@ -81,26 +46,16 @@ onto_spoken version [] l all good = tt
 onto_spoken version (c ∷ []) l all good = (lines_spoken version c.lines l all.0 good, tt)
 onto_spoken version (c ∷ d ∷ more) l all good = (all.0, onto_spoken version (d ∷ more) l all.1 good)
 
-spoken_step : (version : ℕ) (p : Parts) (s : Said) → AreSpoken version p.clients → IsSaid version s → AreSpoken version (with_line p s).clients
+spoken_step : (version : ℕ) (p : Body) (s : Said) → AreSpoken version p.clients → IsSaid version s → AreSpoken version (with_line p s).clients
 spoken_step version p (said.Client name) all good = clients_spoken version p.clients name all
 spoken_step version p (said.Does line what) all good = onto_spoken version p.clients (record { line = line; what = what }) all good
 spoken_step version p _ all good = all
 
 -- ---- all that is known
 
-abbrev HasRoom : Header → Parts → Type 0
-HasRoom h p = 1 ≤ length p.segments → has_room h (length p.segments) ≡ true
-
-room_step : (h : Header) (p : Parts) (s : Said) → HasRoom h p → (not (is_segment s) || has_room h (length p.segments + 1)) ≡ true → HasRoom h (with_line p s)
-room_step h p (said.Segment name) old placed some = rw (length_more p.segments name) placed
-room_step h p _ old placed some = old some
-
 pub record IsHeard (lines : List Said) : Type 0 where
   pub capacity : (header_of lines).capacity < 2 ^ 32
-  pub spoken : AreSpoken (header_of lines).version (parts_of lines).clients
-  pub weight : parts_weight (header_of lines) (parts_of lines) ≤ weight_of lines
-  pub light : weight_of lines ≤ 268435456
-  pub room : HasRoom (header_of lines) (parts_of lines)
+  pub spoken : AreSpoken (header_of lines).version (body_of lines).clients
 
 noted_capacity : (h : Header) (version : ℕ) (s : Said) → h.capacity < 2 ^ 32 → IsSaid version s → (noted h s).capacity < 2 ^ 32
 noted_capacity h version (said.Codfs v) old good = old
@@ -114,44 +69,30 @@ noted_capacity h version (said.Alpha a) old good = old
 noted_capacity h version _ old good = old
 
 -- a line that was carried
-record IsCarried (before : List Said) (s : Said) : Type 0 where
-  pub accepts : Accepts before s
+record IsTaken (n : ℕ) (before : List Said) (s : Said) : Type 0 where
+  pub adds : Adds n before s
   pub good : IsSaid (header_of before).version s
-  pub light : weight_of (before ++ s ∷ []) ≤ 268435456
-  pub placed : is_placed before s ≡ true
 
-heard_more : (before : List Said) (s : Said) → IsSound before → IsHeard before → IsCarried before s → IsHeard (before ++ s ∷ [])
-heard_more before s i h c = elim (cases_lt (length before) 8) [
+heard_more : (before : List Said) (s : Said) → IsSound (before ++ s ∷ []) → IsHeard before → IsSaid (header_of before).version s → IsHeard (before ++ s ∷ [])
+heard_more before s now h good = elim (cases_lt (length before) 8) [
   | inl lt ↦
       let n = length_more before s in
-      let bare : parts_of (before ++ s ∷ []) ≡ no_parts = (sound_more before s i c.accepts).bare (omega (arith, n, lt)) in
-      let none = no_weight (header_of (before ++ s ∷ [])) in
+      let bare : body_of (before ++ s ∷ []) ≡ no_body = now.bare (omega (arith, n, lt)) in
       record {
-        capacity = rw (header_early before s lt) (noted_capacity (header_of before) _ s h.capacity c.good);
+        capacity = rw (header_early before s lt) (noted_capacity (header_of before) _ s h.capacity good);
         spoken = rw bare tt;
-        weight = rw bare (omega (arith, none));
-        light = c.light;
-        room = λ some. absurd (no_segments _ bare some);
       }
   | inr late ↦
       let same = header_late before s late in
-      let more = weight_late before s late in
-      let old = h.weight in
-      let step = weight_step (header_of before) (parts_of before) s in
       record {
         capacity = rw same h.capacity;
-        spoken = rw (same, parts_more before s) (spoken_step (header_of before).version (parts_of before) s h.spoken c.good);
-        weight = rw (same, parts_more before s) (omega (arith, more, old, step));
-        light = c.light;
-        room = rw (same, parts_more before s) (room_step (header_of before) (parts_of before) s h.room c.placed);
+        spoken = rw (same, body_more before s) (spoken_step (header_of before).version (body_of before) s h.spoken good);
       }
-] where
-  no_segments : (p : Parts) → p ≡ no_parts → 1 ≤ length p.segments → ⊥
-  no_segments p e some = let n = ap (λ (q : Parts). length q.segments) e in omega (arith, n, some)
+]
 
 heard_none : IsHeard []
-unfolding header_of parts_of weight_of parts_weight segments_weight clients_weight line_weight
-heard_none = record { capacity = omega arith; spoken = tt; weight = omega arith; light = omega arith; room = λ some. absurd (omega (arith, some)) }
+unfolding header_of body_of
+heard_none = record { capacity = omega arith; spoken = tt }
 
 -- ---- the lengths of the words
 
@@ -220,77 +161,85 @@ also : {A : Type 0} (r : Result A Refusal) (P Q : A → Type 0) → IfOk r P →
 also (Ok x) P Q p q = (p, q)
 also (Err e) P Q p q = tt
 
-carried_is : (before : List Said) (s : Said) → Accepts before s → IsSaid (header_of before).version s → IfOk (carried before s) (IsCarried before)
-unfolding carried
-carried_is before s a g =
-    bind (wants (nat_le (weight_of (before ++ s ∷ [])) 268435456) why.TooLarge) _ (λ _. nat_le (weight_of (before ++ s ∷ [])) 268435456 ≡ true) (IsCarried before) (wanted _ why.TooLarge) (λ u light.
-    bind (wants (is_placed before s) why.Room) _ (λ _. is_placed before s ≡ true) (IsCarried before) (wanted _ why.Room) (λ v placed.
-    record { accepts = a; good = g; light = leb-true (weight_of (before ++ s ∷ [])) 268435456 light; placed = placed }))
-
-words_carried : (before : List Said) (n : ℕ) (first : List ℕ) (ws : List (List ℕ)) → 1 ≤ n → AreShort ws → IfOk (words_say before n first ws) (IsCarried before)
+words_carried : (before : List Said) (n : ℕ) (first : List ℕ) (ws : List (List ℕ)) → 1 ≤ n → AreBefore n (body_of before).clients → AreShort ws
+    → IfOk (words_say before n first ws) (IsTaken n before)
 unfolding words_say
-words_carried before n first ws le short =
-    bind (words_mean before n first ws) _ (λ s. Accepts before s × IsSaid (header_of before).version s) (IsCarried before)
-    (also (words_mean before n first ws) (Accepts before) (IsSaid (header_of before).version) (words_in before n first ws le) (words_good before n first ws short)) (λ s both. carried_is before s both.0 both.1)
+words_carried before n first ws le smaller short =
+    bind (words_mean before n first ws) _ (λ s. IsSaidAt n before s × IsSaid (header_of before).version s) (IsTaken n before)
+    (also (words_mean before n first ws) (IsSaidAt n before) (IsSaid (header_of before).version) (words_in before n first ws le smaller) (words_good before n first ws short))
+    (λ s both. carried_in before s (IsTaken n before) (λ c. record { adds = (both.0, c); good = both.1 }))
 
--- what is kept from line to line
-abbrev pub IsKept : List Said → Type 0
-IsKept lines = IsSound lines × IsHeard lines
+-- what is kept from line to line, where this is the number of the next
+pub record IsKept (next : ℕ) (lines : List Said) : Type 0 where
+  pub sound : IsSound lines
+  pub numbers : AreBefore next (body_of lines).clients
+  pub heard : IsHeard lines
 
-some_or_none : (b : Bool) (before : List Said) (r : Result Said Refusal) → IsKept before → IfOk r (IsCarried before) → IfOk (cond b (Ok before) (r >>= λ new. Ok (before ++ new ∷ []))) IsKept
-some_or_none true before r i a = i
-some_or_none false before r i a = bind r _ (IsCarried before) IsKept a (λ s c. (sound_more before s i.0 c.accepts, heard_more before s i.0 i.1 c))
+kept_more : (before : List Said) (n : ℕ) (s : Said) → IsKept n before → IsTaken n before s → IsKept (n + 1) (before ++ s ∷ [])
+kept_more before n s i t =
+    let g = added before n s i.sound i.numbers t.adds in
+    record { sound = g.sound; numbers = g.numbers; heard = heard_more before s g.sound i.heard t.good }
 
-all_kept : (before : List Said) (n : ℕ) (ws : List (List ℕ)) → 1 ≤ n → AreWithin 16777216 ws → IsKept before → IfOk (all_say before n ws) IsKept
+some_or_none : (b : Bool) (before : List Said) (n : ℕ) (r : Result Said Refusal) → IsKept n before → IfOk r (IsTaken n before)
+    → IfOk (cond b (Ok before) (r >>= λ new. Ok (before ++ new ∷ []))) (IsKept (n + 1))
+some_or_none true before n r i a = record { sound = i.sound; numbers = before_wider n (n + 1) (body_of before).clients (omega arith) i.numbers; heard = i.heard }
+some_or_none false before n r i a = bind r _ (IsTaken n before) (IsKept (n + 1)) a (λ s t. kept_more before n s i t)
+
+all_kept : (before : List Said) (n : ℕ) (ws : List (List ℕ)) → 1 ≤ n → AreWithin 16777216 ws → IsKept n before → IfOk (all_say before n ws) (IsKept (n + 1))
 unfolding all_say
 all_kept before n ws le short i =
-    some_or_none (nat_eq (length ws) 0 || nat_eq (slice_index (word ws 0) 0) 35) before (words_say before n (word ws 0) (drop 1 ws)) i (words_carried before n (word ws 0) (drop 1 ws) le (rest_short ws short))
+    some_or_none (nat_eq (length ws) 0 || nat_eq (slice_index (word ws 0) 0) 35) before n (words_say before n (word ws 0) (drop 1 ws)) i
+    (words_carried before n (word ws 0) (drop 1 ws) le i.numbers (rest_short ws short))
 
-line_kept : (before : List Said) (n : ℕ) (text : List ℕ) → 1 ≤ n → length text ≤ 16777216 → IsKept before → IfOk (line_says before n text) IsKept
+line_kept : (before : List Said) (n : ℕ) (text : List ℕ) → 1 ≤ n → length text ≤ 16777216 → IsKept n before → IfOk (line_says before n text) (IsKept (n + 1))
 unfolding line_says
 line_kept before n text le short i =
-    bind (wants (list_all is_plain_byte (strip_carriage_return text)) why.BadByte) _ Any IsKept (any (wants (list_all is_plain_byte (strip_carriage_return text)) why.BadByte))
+    bind (wants (list_all is_plain_byte (strip_carriage_return text)) why.BadByte) _ Any (IsKept (n + 1)) (any (wants (list_all is_plain_byte (strip_carriage_return text)) why.BadByte))
     (λ u _. all_kept before n (words_of (strip_carriage_return text)) le (words_within text 16777216 short) i)
 
 -- ---- the whole text
 
-at_kept : (n : ℕ) (r : Result (List Said) Refusal) (f : List Said → Result (List Said) (ℕ × Refusal)) → IfOk r IsKept → ((x : List Said) → IsKept x → IfOk (f x) IsKept) → IfOk (at_line n r f) IsKept
+at_kept : (n : ℕ) (r : Result (List Said) Refusal) (f : List Said → Result (List Said) (ℕ × Refusal)) → IfOk r (IsKept (n + 1)) → ((x : List Said) → IsKept (n + 1) x → IfOk (f x) IsHeard)
+    → IfOk (at_line n r f) IsHeard
 at_kept n (Ok x) f q h = h x q
 at_kept n (Err w) f q h = tt
 
-lines_kept : (before : List Said) (n : ℕ) (ls : List (List ℕ)) → 1 ≤ n → AreWithin 16777216 ls → IsKept before → IfOk (lines_say before n ls) IsKept
+lines_kept : (before : List Said) (n : ℕ) (ls : List (List ℕ)) → 1 ≤ n → AreWithin 16777216 ls → IsKept n before → IfOk (lines_say before n ls) IsHeard
 unfolding lines_say
-lines_kept before n [] le short i = i
+lines_kept before n [] le short i = i.heard
 lines_kept before n (t ∷ ls) le short i =
     at_kept n (line_says before n t) _ (line_kept before n t le short.0 i) (λ now k. lines_kept now (n + 1) ls (omega arith) short.1 k)
 
-ended_kept : (b : Bool) (lines : List Said) (e : ℕ × Refusal) → IsKept lines → IfOk (cond b (Ok lines) (Err e)) IsKept
+ended_kept : (b : Bool) (lines : List Said) (e : ℕ × Refusal) → IsHeard lines → IfOk (cond b (Ok lines) (Err e)) IsHeard
 ended_kept true lines e h = h
 ended_kept false lines e h = tt
 
-to_end_kept : (count : ℕ) (r : Result (List Said) (ℕ × Refusal)) → IfOk r IsKept → IfOk (to_end count r) IsKept
+to_end_kept : (count : ℕ) (r : Result (List Said) (ℕ × Refusal)) → IfOk r IsHeard → IfOk (to_end count r) IsHeard
 to_end_kept count (Ok lines) h = ended_kept (is_end (last_of lines)) lines (count + 1, why.NoEnd) h
 to_end_kept count (Err e) h = tt
 
-text_kept : (text : List ℕ) → IfOk (text_says text) IsKept
+none_kept : IsKept 1 []
+none_kept = record { sound = nothing_sound; numbers = rw body_none tt; heard = heard_none }
+
+text_kept : (text : List ℕ) → IfOk (text_says text) IsHeard
 unfolding text_says
 text_kept text = elim (cases_lt 16777216 (length text)) [
   | inl lt ↦ rw (lt-ltb 16777216 (length text) lt) tt
   | inr le ↦
       rw (le-ltb 16777216 (length text) le)
-      (to_end_kept (length (lines_of text)) (lines_say [] 1 (lines_of text)) (lines_kept [] 1 (lines_of text) (omega arith) (lines_within text 16777216 le) (nothing_sound, heard_none)))
+      (to_end_kept (length (lines_of text)) (lines_say [] 1 (lines_of text)) (lines_kept [] 1 (lines_of text) (omega arith) (lines_within text 16777216 le) none_kept))
 ]
 
 -- a scenario that some lines gave
-pub record IsGiven (p : Plan) : Type 0 where
+pub record IsGiven (p : Script) : Type 0 where
   pub lines : List Said
-  pub plan_is : plan_with (header_of lines) (parts_of lines) ≡ p
+  pub script_is : script_with (header_of lines) (body_of lines) ≡ p
   pub heard : IsHeard lines
 
-given : (r : Result (List Said) (ℕ × Refusal)) → IfOk r IsKept → IfOk (plan_or r) IsGiven
-unfolding plan_of
-given (Ok lines) h = record { lines = lines; plan_is = refl; heard = h.1 }
+given : (r : Result (List Said) (ℕ × Refusal)) → IfOk r IsHeard → IfOk (script_or r) IsGiven
+unfolding script_of
+given (Ok lines) h = record { lines = lines; script_is = refl; heard = h }
 given (Err e) h = tt
 
-pub text_is_given : (text : List ℕ) (p : Plan) → reads text ≡ Ok p → IsGiven p
+pub text_is_given : (text : List ℕ) (p : Script) → reads text ≡ Ok p → IsGiven p
 text_is_given text p e = let h = given (text_says text) (text_kept text) in rw e at h

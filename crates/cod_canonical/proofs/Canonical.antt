@@ -7,30 +7,30 @@ use Rattle.std.proofs.lemmas.List.{get_or_default}
 use Rattle.std.proofs.lemmas.List.Elements.{All-tail, recursion_from_All}
 use Rattle.std.proofs.lemmas.Bool.{le-ltb}
 use Rattle.cod_words.specs.Words.{is_name, lines_of}
-use Rattle.cod_scenario.specs.declared.line.Line.{Line}
+use Rattle.cod_script.specs.declared.line.Line.{Line}
 use Rattle.cod_scenario.specs.declared.said.Header.{Header}
 use Rattle.cod_scenario.specs.declared.said.Keyword.TheVariants as key
 use Rattle.cod_scenario.specs.declared.said.Said.{Said}
 use Rattle.cod_scenario.specs.declared.said.Said.TheVariants as said
-use Rattle.cod_scenario.specs.Plan.{Plan, Client, nobody}
-use Rattle.cod_scenario.specs.Lines.{Parts, header_of, parts_of, plan_of, plan_with, line_weight, has_room}
+use Rattle.cod_script.specs.Script.{Script, Client, nobody, Body}
+use Rattle.cod_scenario.specs.Lines.{header_of, body_of, script_of, script_with, line_weight, holds}
 use Rattle.cod_scenario.specs.Judge.{lines_say, to_end, text_says, last_of}
 use Rattle.cod_scenario.specs.Reads.{reads}
-use Rattle.cod_scenario.specs.Sound.{IsScenario, IsClient, IsThere}
-use Rattle.cod_scenario.specs.Text.{plan_text, header_text, segment_text, client_text, care_text, schedule_text}
+use Rattle.cod_script.specs.Sound.{IsScenario, IsClient, IsLine}
+use Rattle.cod_script.specs.Text.{canonical_text, header_text, segment_text, client_text, care_text, schedule_text}
 use Rattle.cod_scenario.proofs.TextSound.{text_is_scenario}
 use Rattle.cod_canonical.specs.Again.{unnumbered, unnumbered_client, IsReadAgain}
 use Rattle.cod_canonical.proofs.Steps.{Reaches, goes_on, Heads, Stands, unnumbered_parts, name_of, names_unnumbered}
 use Rattle.cod_canonical.proofs.ClientLines.{AreNames, IsSpoken}
 use Rattle.cod_canonical.proofs.HeaderLines.{head_of, IsHead, header_reaches}
-use Rattle.cod_canonical.proofs.Weights.{segments_weight, clients_weight, parts_weight}
+use Rattle.cod_canonical.proofs.Weights.{segments_weight, clients_weight, parts_weight, room_of, same_weight}
 use Rattle.cod_canonical.proofs.Phases.{segments_only, clients_only, EndsWith, EndsAmong, IsGoodLine, IsGoodClient, MayCome, after_alpha, segments_reach, clients_reach}
 use Rattle.cod_canonical.proofs.Endings.{EndsAfter, with_care, all_parts, care_reaches, schedule_reaches, end_reaches}
 use Rattle.cod_canonical.proofs.Accepted.{AreSpoken, IsGiven, text_is_given}
 
 -- ---- what is known of the scenario
 
-is_head : (p : Plan) → IsScenario p → p.capacity < 2 ^ 32 → IsHead (head_of p)
+is_head : (p : Script) → IsScenario p → p.capacity < 2 ^ 32 → IsHead (head_of p)
 is_head p i most = record {
   first_version = i.shape.first_version;
   last_version = i.shape.last_version;
@@ -55,12 +55,12 @@ is_head p i most = record {
   most_alpha = i.shape.most_alpha;
 }
 
-good_lines : (h : Header) (segments : ℕ) (ls : List Line) → All (λ (l : Line). (1 ≤ l.line) × IsThere h.nodes segments l.what) ls → AllByRecursion (λ (l : Line). IsSpoken h.version l.what) ls
+good_lines : (h : Header) (segments : ℕ) (ls : List Line) → All (IsLine h.nodes segments) ls → AllByRecursion (λ (l : Line). IsSpoken h.version l.what) ls
     → AllByRecursion (IsGoodLine h segments) ls
 good_lines h segments [] there spoken = tt
 good_lines h segments (l ∷ ls) there spoken =
     let first = there 0 l (omega arith) in
-    ((first.1, spoken.0), good_lines h segments ls (All-tail (λ (l : Line). (1 ≤ l.line) × IsThere h.nodes segments l.what) l ls there) spoken.1)
+    ((first.1, spoken.0), good_lines h segments ls (All-tail (IsLine h.nodes segments) l ls there) spoken.1)
 
 good_clients : (h : Header) (segments : ℕ) (cs : List Client) → All (IsClient h.nodes segments) cs → AreSpoken h.version cs → AllByRecursion (IsGoodClient h segments) cs
 good_clients h segments [] all spoken = tt
@@ -75,19 +75,19 @@ client_names_good nodes segments cs all i d lt =
     rw at ((all i nobody below).0)
 
 -- what a scenario has beyond its limits
-pub record IsReadable (h : Header) (q : Parts) : Type 0 where
-  pub scenario : IsScenario (plan_with h q)
+pub record IsReadable (h : Header) (q : Body) : Type 0 where
+  pub scenario : IsScenario (script_with h q)
   pub capacity : h.capacity < 2 ^ 32
   pub spoken : AreSpoken h.version q.clients
   pub light : parts_weight h q ≤ 268435456
-  pub room : has_room h (length q.segments) ≡ true
+  pub room : holds h (length q.segments) ≡ true
 
 -- ---- the whole text
 
-abbrev IsWhole : Header → Parts → List Said → Type 0
+abbrev IsWhole : Header → Body → List Said → Type 0
 IsWhole h q lines = Stands h (unnumbered_parts q) 0 lines × (last_of lines ≡ Some said.End)
 
-begins : (h : Header) (q : Parts) (lines : List Said) → Heads 8 h lines → parts_weight h q ≤ 268435456
+begins : (h : Header) (q : Body) (lines : List Said) → Heads 8 h lines → parts_weight h q ≤ 268435456
     → Stands h (segments_only []) (segments_weight h q.segments + (clients_weight h q.clients + (line_weight h (said.Care q.workers q.rounds) + 0))) lines
 unfolding parts_weight
 begins h q lines i light =
@@ -96,15 +96,15 @@ begins h q lines i light =
 
 whole_reaches : (h : Header) (segments : List (List ℕ)) (clients : List Client) (schedule : List ℕ) (workers rounds : ℕ)
     → IsReadable h (all_parts segments clients schedule workers rounds)
-    → Reaches [] 1 (plan_text (plan_with h (all_parts segments clients schedule workers rounds))) (IsWhole h (all_parts segments clients schedule workers rounds))
+    → Reaches [] 1 (canonical_text (script_with h (all_parts segments clients schedule workers rounds))) (IsWhole h (all_parts segments clients schedule workers rounds))
 whole_reaches h [] clients schedule workers rounds i = let some = i.scenario.some_segments in absurd (omega (arith, some))
 whole_reaches h (name ∷ names) [] schedule workers rounds i = let some = i.scenario.some_clients in absurd (omega (arith, some))
 whole_reaches h (name ∷ names) (c ∷ cs) schedule workers rounds i =
     let segments : List (List ℕ) = name ∷ names in
     let clients : List Client = c ∷ cs in
-    let q : Parts = all_parts segments clients schedule workers rounds in
+    let q : Body = all_parts segments clients schedule workers rounds in
     let bare : List Client = map unnumbered_client clients in
-    let p : Plan = plan_with h q in
+    let p : Script = script_with h q in
     let End : List Said → Type 0 = IsWhole h q in
     let care : ℕ = line_weight h (said.Care workers rounds) + 0 in
     let segment_names : AreNames segments = record { differ = i.scenario.segments_differ; good = i.scenario.segment_names } in
@@ -138,31 +138,33 @@ said_again text P r = ap (λ t. lines_say [] 1 (lines_of t)) (sym (append-nil te
 ended : (lines : List Said) (count : ℕ) → last_of lines ≡ Some said.End → to_end count (Ok lines) ≡ Ok lines
 ended lines count e = rw e refl
 
-read_again : (text : List ℕ) (now : List Said) → length text ≤ 2 ^ 24 → lines_say [] 1 (lines_of text) ≡ Ok now → last_of now ≡ Some said.End → reads text ≡ Ok (plan_of now)
+read_again : (text : List ℕ) (now : List Said) → length text ≤ 2 ^ 24 → lines_say [] 1 (lines_of text) ≡ Ok now → last_of now ≡ Some said.End → reads text ≡ Ok (script_of now)
 unfolding text_says
 read_again text now le e last = rw (le-ltb 16777216 (length text) le, e, ended now (length (lines_of text)) last) refl
 
-same_plan : (h : Header) (q : Parts) (now : List Said) → Stands h (unnumbered_parts q) 0 now → unnumbered (plan_of now) ≡ unnumbered (plan_with h q)
-unfolding plan_of
-same_plan h q now i = ap (λ (x : Header). plan_with x (unnumbered_parts (parts_of now))) i.header_is ∙ ap (plan_with h) i.parts_are
+same_script : (h : Header) (q : Body) (now : List Said) → Stands h (unnumbered_parts q) 0 now → unnumbered (script_of now) ≡ unnumbered (script_with h q)
+unfolding script_of
+same_script h q now i = ap (λ (x : Header). script_with x (unnumbered_parts (body_of now))) i.header_is ∙ ap (script_with h) i.parts_are
 
-readable : (p : Plan) → IsScenario p → (g : IsGiven p) → IsReadable (header_of g.lines) (parts_of g.lines)
+readable : (p : Script) → IsScenario p → (g : IsGiven p) → IsReadable (header_of g.lines) (body_of g.lines)
 readable p s g =
-    let a = g.heard.weight in
-    let b = g.heard.light in
-    let scenario : IsScenario (plan_with (header_of g.lines) (parts_of g.lines)) = subst IsScenario (sym g.plan_is) s in
-    record { scenario = scenario; capacity = g.heard.capacity; spoken = g.heard.spoken; light = omega (arith, a, b); room = g.heard.room scenario.some_segments }
+    let h : Header = header_of g.lines in
+    let q : Body = body_of g.lines in
+    let scenario : IsScenario (script_with h q) = subst IsScenario (sym g.script_is) s in
+    let light = scenario.light in
+    let same = same_weight h q in
+    record { scenario = scenario; capacity = g.heard.capacity; spoken = g.heard.spoken; light = omega (arith, light, same); room = room_of h (length q.segments) scenario.room }
 
-again_of : (h : Header) (q : Parts) → IsReadable h q → length (plan_text (plan_with h q)) ≤ 2 ^ 24
-    → (again : Plan) × (reads (plan_text (plan_with h q)) ≡ Ok again) × (unnumbered again ≡ unnumbered (plan_with h q))
+again_of : (h : Header) (q : Body) → IsReadable h q → length (canonical_text (script_with h q)) ≤ 2 ^ 24
+    → (again : Script) × (reads (canonical_text (script_with h q)) ≡ Ok again) × (unnumbered again ≡ unnumbered (script_with h q))
 again_of h q i le =
-    let r : Reaches [] 1 (plan_text (plan_with h q)) (IsWhole h q) = whole_reaches h q.segments q.clients q.schedule q.workers q.rounds i in
-    (plan_of r.now, read_again (plan_text (plan_with h q)) r.now le (said_again (plan_text (plan_with h q)) (IsWhole h q) r) r.holds.1, same_plan h q r.now r.holds.0)
+    let r : Reaches [] 1 (canonical_text (script_with h q)) (IsWhole h q) = whole_reaches h q.segments q.clients q.schedule q.workers q.rounds i in
+    (script_of r.now, read_again (canonical_text (script_with h q)) r.now le (said_again (canonical_text (script_with h q)) (IsWhole h q) r) r.holds.1, same_script h q r.now r.holds.0)
 
 pub is_read_again : IsReadAgain
 is_read_again text p e le =
     let g = text_is_given text p e in
     let h : Header = header_of g.lines in
-    let q : Parts = parts_of g.lines in
-    subst (λ (x : Plan). length (plan_text x) ≤ 2 ^ 24 → (again : Plan) × (reads (plan_text x) ≡ Ok again) × (unnumbered again ≡ unnumbered x)) g.plan_is
+    let q : Body = body_of g.lines in
+    subst (λ (x : Script). length (canonical_text x) ≤ 2 ^ 24 → (again : Script) × (reads (canonical_text x) ≡ Ok again) × (unnumbered again ≡ unnumbered x)) g.script_is
     (again_of h q (readable p (text_is_scenario text p e) g)) le

@@ -6,8 +6,8 @@ use Rattle.cod_types.specs.declared.call.Call.{Call}
 use Rattle.cod_types.specs.declared.call.Call.TheVariants as calls
 use Rattle.cod_words.specs.Words.{is_name}
 use Rattle.cod_print.specs.Pieces.{data_word}
-use Rattle.cod_scenario.specs.declared.line.What.{What}
-use Rattle.cod_scenario.specs.declared.line.What.TheVariants.{Segment, Fail}
+use Rattle.cod_script.specs.declared.line.What.{What}
+use Rattle.cod_script.specs.declared.line.What.TheVariants.{Segment, Fail}
 use Rattle.cod_scenario.specs.declared.said.Header.{Header}
 use Rattle.cod_scenario.specs.declared.said.Keyword.TheVariants as key
 use Rattle.cod_scenario.specs.declared.said.Keyword.{Keyword}
@@ -15,10 +15,12 @@ use Rattle.cod_scenario.specs.declared.said.Verb.{Verb}
 use Rattle.cod_scenario.specs.declared.said.Verb.TheVariants as verb
 use Rattle.cod_scenario.specs.declared.said.Said.{Said}
 use Rattle.cod_scenario.specs.declared.said.Said.TheVariants as said
-use Rattle.cod_scenario.specs.Judge.{keyword_of, may_follow, among_clients, rest_says, what_says, does_line, known, read_line, write_line, swap_line, put_line, plain_line, drain_line, fail_line, is_end, last_of}
-use Rattle.cod_scenario.specs.Lines.{Parts, client_names, line_weight, with_line}
-use Rattle.cod_scenario.specs.Sound.{AllDiffer, IsThere}
-use Rattle.cod_scenario.specs.Text.{line_text, what_text}
+use Rattle.cod_scenario.specs.Judge.{keyword_of, may_follow, among_clients, rest_says, what_says, does_line, known, read_line, write_line, swap_line, put_line, plain_line, drain_line, fail_line}
+use Rattle.cod_scenario.specs.Judge.{is_end, last_of}
+use Rattle.cod_scenario.specs.Lines.{client_names, line_weight, with_line}
+use Rattle.cod_script.specs.Script.{Body}
+use Rattle.cod_script.specs.Sound.{AllDiffer, IsThere}
+use Rattle.cod_script.specs.Text.{line_text, what_text}
 use Rattle.cod_canonical.proofs.Texts.{IsClear}
 use Rattle.cod_canonical.proofs.Fields.{decimal_is_clear, number_back, node_back, name_is_clear, known_back}
 use Rattle.cod_canonical.proofs.Datas.{IsData, data_back, data_is_clear}
@@ -61,8 +63,7 @@ after_does version n what = record { goes_on = refl; among = λ k. refl }
 
 pub weight_unnumbered : (h : Header) (n : ℕ) (what : What) → line_weight h (said.Does n what) ≡ line_weight h (said.Does 0 what)
 unfolding line_weight
-weight_unnumbered h n (Segment seg call) = refl
-weight_unnumbered h n (Fail node) = refl
+weight_unnumbered h n what = refl
 
 does_read : (h : Header) (segments clients : List (List ℕ)) (n : ℕ) (v : Verb) (ws : List (List ℕ)) (what : What)
     → what_says h segments v ws ≡ Ok what → rest_says h segments clients n (key.Does v) ws ≡ Ok (said.Does n what)
@@ -152,7 +153,8 @@ module _ (h : Header) (names : List (List ℕ)) (good : AreNames names) (few : h
   rebuild_speaks seg lt =
       record { clear = record { some = refl; clear = refl }; no_comment = refl; words = (word_clear seg lt, tt); keyword = refl; stands = refl; read = plain_read seg calls.Rebuild lt }
 
-  upgrade_speaks : (seg : ℕ) → seg < length names → nat_eq h.version 2 ≡ true → Speaks h names (codes "upgrade") (slice_index_or names seg [] ∷ []) verb.Upgrade (Segment (record { 0 = seg }) calls.Upgrade)
+  upgrade_speaks : (seg : ℕ) → seg < length names → nat_eq h.version 2 ≡ true
+      → Speaks h names (codes "upgrade") (slice_index_or names seg [] ∷ []) verb.Upgrade (Segment (record { 0 = seg }) calls.Upgrade)
   unfolding what_says
   upgrade_speaks seg lt two =
       record { clear = record { some = refl; clear = refl }; no_comment = refl; words = (word_clear seg lt, tt); keyword = refl; stands = two; read = plain_read seg calls.Upgrade lt }
@@ -184,7 +186,8 @@ module _ (h : Header) (names : List (List ℕ)) (good : AreNames names) (few : h
         read = rw (node_back h.nodes x there small) refl;
       }
 
-module _ (before : List Said) (n : ℕ) (h : Header) (q : Parts) (left : ℕ) (last : Option Said) (good : AreNames q.segments) (few : h.nodes ≤ 64) (l : last_of before ≡ last) (among : IsAmong h.version last) where
+module _ (before : List Said) (n : ℕ) (h : Header) (q : Body) (left : ℕ) (last : Option Said) (good : AreNames q.segments) (few : h.nodes ≤ 64) (l : last_of before ≡ last)
+    (among : IsAmong h.version last) where
   speaks_reaches : (first : List ℕ) (ws : List (List ℕ)) (v : Verb) (what : What) → Stands h q (line_weight h (said.Does 0 what) + left) before → Speaks h q.segments first ws v what
       → Reaches before n (line_text first ws) (λ now. Stands h (with_line q (said.Does 0 what)) left now × (last_of now ≡ Some (said.Does n what)))
   speaks_reaches first ws v what i p =

@@ -10,9 +10,9 @@ use Rattle.cod_scenario.specs.declared.said.Keyword.TheVariants as key
 use Rattle.cod_scenario.specs.declared.said.Said.{Said}
 use Rattle.cod_scenario.specs.declared.said.Said.TheVariants as said
 use Rattle.cod_scenario.specs.Judge.{may_follow, rest_says, care_line, schedule_line, end_line, last_of}
-use Rattle.cod_scenario.specs.Lines.{Parts, client_names, line_weight}
-use Rattle.cod_scenario.specs.Plan.{Client, nobody}
-use Rattle.cod_scenario.specs.Text.{line_text, care_text, schedule_text, name_at}
+use Rattle.cod_scenario.specs.Lines.{client_names, line_weight}
+use Rattle.cod_script.specs.Script.{Body, Client, nobody}
+use Rattle.cod_script.specs.Text.{line_text, care_text, schedule_text, name_at}
 use Rattle.cod_canonical.proofs.Texts.{IsClear}
 use Rattle.cod_canonical.proofs.Fields.{decimal_is_clear, field_back, name_is_clear, each_back}
 use Rattle.cod_canonical.proofs.Steps.{Reaches, stays, Stands, leaves, name_of, there_reaches}
@@ -35,18 +35,18 @@ after_schedule : (version : ℕ) (turns : List ℕ) → IsAfter version (Some (s
 unfolding may_follow
 after_schedule version turns = record { schedule = record { goes_on = refl; stands = refl }; end = record { goes_on = refl; stands = refl } }
 
-abbrev pub EndsAfter : Header → Parts → ℕ → List Said → Type 0
+abbrev pub EndsAfter : Header → Body → ℕ → List Said → Type 0
 EndsAfter h q left lines = Stands h q left lines × IsAfter h.version (last_of lines)
 
 -- the line behind which more may come
-then : (before : List Said) (n : ℕ) (h : Header) (q : Parts) (left : ℕ) (s : Said) (text : List ℕ) → IsAfter h.version (Some s)
+then : (before : List Said) (n : ℕ) (h : Header) (q : Body) (left : ℕ) (s : Said) (text : List ℕ) → IsAfter h.version (Some s)
     → Reaches before n text (λ now. Stands h q left now × (last_of now ≡ Some s)) → Reaches before n text (EndsAfter h q left)
 then before n h q left s text after r =
     record { now = r.now; next = r.next; leads = r.leads; holds = (r.holds.0, subst (IsAfter h.version) (sym r.holds.1) after) }
 
 -- ---- the care workers
 
-abbrev pub with_care : Parts → ℕ → ℕ → Parts
+abbrev pub with_care : Body → ℕ → ℕ → Body
 with_care q workers rounds = record q { workers = workers; rounds = rounds }
 
 care_read : (h : Header) (segments clients : List (List ℕ)) (n workers rounds : ℕ) → workers ≤ 16 → rounds ≤ 65536
@@ -64,11 +64,12 @@ care_by true h names cs workers rounds left before n e a b i among =
     let w : workers ≡ 0 = eqb-true workers 0 parts.0 in
     let r : rounds ≡ 0 = eqb-true rounds 0 parts.1 in
     let same : with_care (clients_only names cs) 0 0 ≡ with_care (clients_only names cs) workers rounds = rw (w, r) refl in
-    let end : Stands h (with_care (clients_only names cs) workers rounds) left before = subst (λ (q : Parts). Stands h q left before) same (leaves i refl (omega arith)) in
+    let end : Stands h (with_care (clients_only names cs) workers rounds) left before = subst (λ (q : Body). Stands h q left before) same (leaves i refl (omega arith)) in
     rw e (stays before n (EndsAfter h (with_care (clients_only names cs) workers rounds) left) (end, after_among h.version (last_of before) among))
 care_by false h names cs workers rounds left before n e a b i among =
     let reached : Reaches before n (line_text (codes "care") (decimal workers ∷ decimal rounds ∷ [])) (EndsAfter h (with_care (clients_only names cs) workers rounds) left) =
-    then before n h (with_care (clients_only names cs) workers rounds) left (said.Care workers rounds) (line_text (codes "care") (decimal workers ∷ decimal rounds ∷ [])) (after_care h.version workers rounds)
+    then before n h (with_care (clients_only names cs) workers rounds) left (said.Care workers rounds) (line_text (codes "care") (decimal workers ∷ decimal rounds ∷ []))
+    (after_care h.version workers rounds)
     (there_reaches before n h (clients_only names cs) left (last_of before) (codes "care") (decimal workers ∷ decimal rounds ∷ []) key.Care (said.Care workers rounds) i refl
     (record {
       clear = record { some = refl; clear = refl };
@@ -105,14 +106,14 @@ schedule_read h segments names n t turns good all =
     rw (le-leb 1 (suc (length (map (λ t. slice_index_or names t []) turns))) (omega arith), each_back names (t ∷ turns) good.differ good.good all) refl
 
 -- the parts of a scenario with these clients
-abbrev pub all_parts : List (List ℕ) → List Client → List ℕ → ℕ → ℕ → Parts
+abbrev pub all_parts : List (List ℕ) → List Client → List ℕ → ℕ → ℕ → Body
 all_parts names cs schedule workers rounds = record { segments = names; clients = cs; schedule = schedule; workers = workers; rounds = rounds }
 
-no_weight : (h : Header) (q : Parts) (turns : List ℕ) (left : ℕ) (lines : List Said) → Stands h q left lines → Stands h q (line_weight h (said.Schedule turns) + left) lines
+no_weight : (h : Header) (q : Body) (turns : List ℕ) (left : ℕ) (lines : List Said) → Stands h q left lines → Stands h q (line_weight h (said.Schedule turns) + left) lines
 unfolding line_weight
 no_weight h q turns left lines i = leaves i refl (omega arith)
 
-no_end_weight : (h : Header) (q : Parts) (left : ℕ) (lines : List Said) → Stands h q left lines → Stands h q (line_weight h said.End + left) lines
+no_end_weight : (h : Header) (q : Body) (left : ℕ) (lines : List Said) → Stands h q left lines → Stands h q (line_weight h said.End + left) lines
 unfolding line_weight
 no_end_weight h q left lines i = leaves i refl (omega arith)
 
@@ -122,7 +123,7 @@ pub schedule_reaches : (h : Header) (names : List (List ℕ)) (cs clients : List
 schedule_reaches h names cs clients workers rounds [] left before n e good all i = stays before n (EndsAfter h (all_parts names cs [] workers rounds) left) i
 schedule_reaches h names cs clients workers rounds (t ∷ turns) left before n e good all i =
     let words : List (List ℕ) = map (λ t. slice_index_or (map name_of clients) t []) (t ∷ turns) in
-    let q : Parts = all_parts names cs [] workers rounds in
+    let q : Body = all_parts names cs [] workers rounds in
     let read : rest_says h names (client_names q) n key.Schedule words ≡ Ok (said.Schedule (t ∷ turns)) = rw e (schedule_read h names (map name_of clients) n t turns good all) in
     let reached : Reaches before n (line_text (codes "schedule") words) (EndsAfter h (all_parts names cs (t ∷ turns) workers rounds) left) =
     then before n h (all_parts names cs (t ∷ turns) workers rounds) left (said.Schedule (t ∷ turns)) (line_text (codes "schedule") words) (after_schedule h.version (t ∷ turns))
@@ -145,7 +146,7 @@ end_read : (h : Header) (segments clients : List (List ℕ)) (n : ℕ) → rest_
 unfolding rest_says end_line
 end_read h segments clients n = refl
 
-pub end_reaches : (h : Header) (q : Parts) (left : ℕ) (before : List Said) (n : ℕ) → EndsAfter h q left before
+pub end_reaches : (h : Header) (q : Body) (left : ℕ) (before : List Said) (n : ℕ) → EndsAfter h q left before
     → Reaches before n (line_text (codes "end") []) (λ now. Stands h q left now × (last_of now ≡ Some said.End))
 end_reaches h q left before n i =
     there_reaches before n h q left (last_of before) (codes "end") [] key.End said.End (no_end_weight h q left before i.0) refl

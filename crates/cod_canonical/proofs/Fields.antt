@@ -16,7 +16,7 @@ use Rattle.std.proofs.lemmas.Fmt.{digits_decimal, decimal_nonempty}
 use Rattle.cod_words.specs.Words.{is_name, is_name_byte, is_letter}
 use Rattle.cod_words.proofs.Round.{number_again}
 use Rattle.cod_scenario.specs.Judge.{number, field, known, each_known, node, new_name}
-use Rattle.cod_scenario.specs.Sound.{AllDiffer}
+use Rattle.cod_script.specs.Sound.{AllDiffer}
 use Rattle.cod_canonical.proofs.Texts.{IsClear, is_clear}
 
 -- ---- numbers

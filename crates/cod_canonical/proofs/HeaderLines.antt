@@ -7,13 +7,13 @@ use Rattle.cod_scenario.specs.declared.said.Said.{Said}
 use Rattle.cod_scenario.specs.declared.said.Said.TheVariants as said
 use Rattle.cod_scenario.specs.Judge.{may_follow, rest_says, codfs_line, nodes_line, code_line, field_line, only_field, last_of}
 use Rattle.cod_scenario.specs.Lines.{no_header, bytes_of, floor_of}
-use Rattle.cod_scenario.specs.Plan.{Plan}
-use Rattle.cod_scenario.specs.Text.{header_text, numbers_text}
+use Rattle.cod_script.specs.Script.{Script}
+use Rattle.cod_script.specs.Text.{header_text, numbers_text}
 use Rattle.cod_canonical.proofs.Fields.{decimal_is_clear, field_back}
 use Rattle.cod_canonical.proofs.Steps.{Reaches, goes_on, Heads, heads_none, head_reaches}
 
 -- the numbers of a scenario's header
-abbrev pub head_of : Plan → Header
+abbrev pub head_of : Script → Header
 head_of p =
     record {
       version = p.shape.version;
@@ -117,7 +117,8 @@ module _ (h : Header) (i : IsHead h) where
   unfolding rest_says may_follow
   nodes_reaches before n was =
       let most = i.most_nodes in
-      head_reaches before n 1 (after_codfs h) (Some (said.Codfs h.version)) (codes "nodes") (decimal h.nodes ∷ decimal h.capacity ∷ []) key.Nodes (said.Nodes h.nodes h.capacity) was.0 was.1 (omega arith)
+      head_reaches before n 1 (after_codfs h) (Some (said.Codfs h.version)) (codes "nodes") (decimal h.nodes ∷ decimal h.capacity ∷ []) key.Nodes (said.Nodes h.nodes h.capacity) was.0 was.1
+      (omega arith)
       (record {
         clear = record { some = refl; clear = refl };
         no_comment = refl;
@@ -246,7 +247,7 @@ module _ (h : Header) (i : IsHead h) where
         no_part = refl;
       })
 
-pub header_reaches : (p : Plan) → IsHead (head_of p) → Reaches [] 1 (header_text p) (λ lines. Heads 8 (head_of p) lines × (last_of lines ≡ Some (said.Alpha p.shape.alpha)))
+pub header_reaches : (p : Script) → IsHead (head_of p) → Reaches [] 1 (header_text p) (λ lines. Heads 8 (head_of p) lines × (last_of lines ≡ Some (said.Alpha p.shape.alpha)))
 unfolding header_text
 header_reaches p i =
     let h : Header = head_of p in

@@ -6,17 +6,17 @@ use Rattle.std.proofs.Math.Seq.{get_or-append_seam}
 use Rattle.std.proofs.lemmas.List.{map_push}
 use Rattle.std.proofs.lemmas.Bool.{lt-ltb}
 use Rattle.cod_words.specs.Words.{is_name}
-use Rattle.cod_scenario.specs.declared.line.Line.{Line}
+use Rattle.cod_script.specs.declared.line.Line.{Line}
 use Rattle.cod_scenario.specs.declared.said.Header.{Header}
 use Rattle.cod_scenario.specs.declared.said.Keyword.TheVariants as key
 use Rattle.cod_scenario.specs.declared.said.Keyword.{Keyword}
 use Rattle.cod_scenario.specs.declared.said.Said.{Said}
 use Rattle.cod_scenario.specs.declared.said.Said.TheVariants as said
 use Rattle.cod_scenario.specs.Judge.{may_follow, rest_says, added_name, segment_line, client_line, is_end, last_of}
-use Rattle.cod_scenario.specs.Lines.{Parts, no_parts, line_weight, with_line, onto_last, has_room}
-use Rattle.cod_scenario.specs.Plan.{Client}
-use Rattle.cod_scenario.specs.Sound.{AllDiffer, IsThere}
-use Rattle.cod_scenario.specs.Text.{line_text, what_text, client_text, segment_text}
+use Rattle.cod_scenario.specs.Lines.{no_body, line_weight, with_line, holds}
+use Rattle.cod_script.specs.Script.{Body, onto_last, Client}
+use Rattle.cod_script.specs.Sound.{AllDiffer, IsThere}
+use Rattle.cod_script.specs.Text.{line_text, what_text, client_text, segment_text}
 use Rattle.cod_canonical.specs.Again.{unnumbered_line, unnumbered_client}
 use Rattle.cod_canonical.proofs.Fields.{name_is_clear, new_back}
 use Rattle.cod_canonical.proofs.Steps.{Reaches, stays, goes_on, Stands, leaves, name_of, there_reaches}
@@ -25,8 +25,8 @@ use Rattle.cod_canonical.proofs.Weights.{segments_weight, lines_weight, clients_
 
 -- ---- the segments
 
-abbrev pub segments_only : List (List ℕ) → Parts
-segments_only names = record no_parts { segments = names }
+abbrev pub segments_only : List (List ℕ) → Body
+segments_only names = record no_body { segments = names }
 
 -- a line of this kind may come
 pub record MayCome (version : ℕ) (last : Option Said) (k : Keyword) : Type 0 where
@@ -71,7 +71,7 @@ abbrev pub EndsWith : Header → List (List ℕ) → ℕ → List Said → Type 
 EndsWith h all left lines = Stands h (segments_only all) left lines × MayCome h.version (last_of lines) key.Client
 
 segment_reaches : (h : Header) (all done : List (List ℕ)) (name : List ℕ) (rest : List (List ℕ)) (left : ℕ) (before : List Said) (n : ℕ)
-    → all ≡ done ++ name ∷ rest → AreNames all → length all ≤ 1024 → has_room h (length all) ≡ true
+    → all ≡ done ++ name ∷ rest → AreNames all → length all ≤ 1024 → holds h (length all) ≡ true
     → Stands h (segments_only done) (segments_weight h (name ∷ rest) + left) before → MayCome h.version (last_of before) key.Segment
     → Reaches before n (segment_text name) (λ now. Stands h (segments_only (done ++ name ∷ [])) (segments_weight h rest + left) now × (last_of now ≡ Some (said.Segment name)))
 unfolding segments_weight
@@ -94,7 +94,7 @@ segment_reaches h all done name rest left before n e names few room i may =
     })
 
 pub segments_reach : (h : Header) (all done : List (List ℕ)) (name : List ℕ) (rest : List (List ℕ)) (left : ℕ) (before : List Said) (n : ℕ)
-    → all ≡ done ++ name ∷ rest → AreNames all → length all ≤ 1024 → has_room h (length all) ≡ true
+    → all ≡ done ++ name ∷ rest → AreNames all → length all ≤ 1024 → holds h (length all) ≡ true
     → Stands h (segments_only done) (segments_weight h (name ∷ rest) + left) before → MayCome h.version (last_of before) key.Segment
     → Reaches before n (flat_map segment_text (name ∷ rest)) (EndsWith h all left)
 unfolding segments_weight
@@ -112,8 +112,8 @@ segments_reach h all done name (w ∷ rest) left before n e names few room i may
 
 -- ---- the clients
 
-abbrev pub clients_only : List (List ℕ) → List Client → Parts
-clients_only names cs = record no_parts { segments = names; clients = cs }
+abbrev pub clients_only : List (List ℕ) → List Client → Body
+clients_only names cs = record no_body { segments = names; clients = cs }
 
 abbrev pub client_with : List ℕ → List Line → Client
 client_with name ls = record { name = name; lines = ls }
@@ -127,7 +127,7 @@ onto_seam (d ∷ e ∷ more) c l = ap (λ x. d ∷ x) (onto_seam (e ∷ more) c 
 abbrev pub IsGoodLine : Header → ℕ → Line → Type 0
 IsGoodLine h segments l = IsThere h.nodes segments l.what × IsSpoken h.version l.what
 
-abbrev pub EndsAmong : Header → Parts → ℕ → List Said → Type 0
+abbrev pub EndsAmong : Header → Body → ℕ → List Said → Type 0
 EndsAmong h q left lines = Stands h q left lines × IsAmong h.version (last_of lines)
 
 pub lines_reach : (h : Header) (names : List (List ℕ)) (done : List Client) (name : List ℕ) (ls rest : List Line) (left : ℕ) (before : List Said) (n : ℕ)
@@ -139,7 +139,7 @@ lines_reach h names done name ls [] left before n good few all i among =
     stays before n (EndsAmong h (clients_only names (done ++ client_with name (ls ++ []) ∷ [])) left)
     (leaves i (ap (λ (x : List Line). clients_only names (done ++ client_with name x ∷ [])) (sym (append-nil ls))) (omega arith), among)
 lines_reach h names done name ls (l ∷ rest) left before n good few all i among =
-    let q : Parts = clients_only names (done ++ client_with name ls ∷ []) in
+    let q : Body = clients_only names (done ++ client_with name ls ∷ []) in
     let start : Stands h q (line_weight h (said.Does 0 l.what) + (lines_weight h rest + left)) before = leaves i refl (omega arith) in
     goes_on before n (what_text names l.what) (flat_map (λ l. what_text names l.what) rest)
     (λ now. Stands h (with_line q (said.Does 0 l.what)) (lines_weight h rest + left) now × (last_of now ≡ Some (said.Does n l.what)))
@@ -156,7 +156,7 @@ lines_reach h names done name ls (l ∷ rest) left before n good few all i among
 abbrev pub IsGoodClient : Header → ℕ → Client → Type 0
 IsGoodClient h segments c = AllByRecursion (IsGoodLine h segments) c.lines
 
-weightless : (h : Header) (q : Parts) (name : List ℕ) (left : ℕ) (lines : List Said) → Stands h q left lines → Stands h q (line_weight h (said.Client name) + left) lines
+weightless : (h : Header) (q : Body) (name : List ℕ) (left : ℕ) (lines : List Said) → Stands h q left lines → Stands h q (line_weight h (said.Client name) + left) lines
 unfolding line_weight
 weightless h q name left lines i = leaves i refl (omega arith)
 

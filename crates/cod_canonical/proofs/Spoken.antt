@@ -1,21 +1,19 @@
 -- The numbers and the bytes that the words of an accepted line give.
-use Rattle.std.proofs.Common.{◌≡◌, ℕ, zero, suc, ◌<◌, ◌≤◌, ◌^◌, Bool, true, false, List, [], ◌∷◌, length, drop, take, replicate, refl, arith, cond, Result, Ok, Err, Option, Some, None, min, not}
+use Rattle.std.proofs.Common.{◌≡◌, ℕ, ◌<◌, ◌≤◌, ◌^◌, Bool, true, false, List, [], ◌∷◌, length, drop, take, replicate, refl, arith, cond, Result, Ok, Err, Option, Some, None, min, not}
 use Rattle.std.specs.Prelude.{nat_eq, nat_le, nat_lt, ◌&&◌, IfOk}
 use Rattle.std.specs.List.{list_all}
 use Rattle.std.specs.Str.Parse.{digits_value}
 use Rattle.std.proofs.lemmas.Bool.{leb-true, and_parts, false≢true}
 use Rattle.std.proofs.lemmas.Bool.Decides.{nat_tests}
 use Rattle.std.proofs.lemmas.List.{length-replicate}
-use Rattle.hex.specs.Hex.{IsBytes, decode_of, decode_pairs}
+use Rattle.hex.specs.Hex.{decode_of}
 use Rattle.hex.specs.declared.error.FromHexError.{FromHexError}
-use Rattle.hex.specs.declared.error.FromHexError.TheVariants.{OddLength}
-use Rattle.hex.proofs.HexLemmas.{decode_pairs-ok}
 use Rattle.cod_types.specs.declared.call.Call.{Call}
 use Rattle.cod_types.specs.declared.call.Call.TheVariants as calls
 use Rattle.cod_words.specs.Words.{is_number, is_digit, number_of, data_of, repeated_data, plain_data}
 use Rattle.cod_words.specs.declared.data.DataError.{DataError}
 use Rattle.cod_words.specs.declared.data.DataError.TheVariants as data_errors
-use Rattle.cod_scenario.specs.declared.line.What.{What}
+use Rattle.cod_script.specs.declared.line.What.{What}
 use Rattle.cod_scenario.specs.declared.refusal.Refusal.TheVariants as why
 use Rattle.cod_scenario.specs.declared.said.Header.{Header}
 use Rattle.cod_scenario.specs.declared.said.Said.{Said}
@@ -24,9 +22,12 @@ use Rattle.cod_scenario.specs.declared.said.Keyword.{Keyword}
 use Rattle.cod_scenario.specs.declared.said.Keyword.TheVariants as key
 use Rattle.cod_scenario.specs.declared.said.Verb.{Verb}
 use Rattle.cod_scenario.specs.declared.said.Verb.TheVariants as verb
-use Rattle.cod_scenario.specs.Judge.{wants, found, number, field, known, each_known, node, data_word, data_or, word, counted, codfs_line, nodes_line, code_line, only_field, field_line, added_name, segment_line, client_line, read_line, write_line, swap_line, put_line, plain_line, drain_line, fail_line, care_line, schedule_line, end_line, what_says, does_line, rest_says, words_mean, may_follow, last_of, is_end, keyword_of}
+use Rattle.cod_scenario.specs.Judge.{wants, found, number, field, known, each_known, node, data_word, data_or, word, counted, codfs_line, nodes_line, code_line, only_field, field_line, added_name}
+use Rattle.cod_scenario.specs.Judge.{segment_line, client_line, read_line, write_line, swap_line, put_line, plain_line, drain_line, fail_line, care_line, schedule_line, end_line, what_says, does_line}
+use Rattle.cod_scenario.specs.Judge.{rest_says, words_mean, may_follow, last_of, is_end, keyword_of}
 use Rattle.cod_scenario.specs.Lines.{header_of, segments_of, clients_of, bytes_of, floor_of}
 use Rattle.cod_scenario.proofs.Accepting.{bind, Any, any, wanted}
+use Rattle.cod_scenario.proofs.DataBytes.{IsDecoded, decoded, bytes_many}
 use Rattle.cod_canonical.proofs.Datas.{IsData}
 use Rattle.cod_canonical.proofs.ClientLines.{IsSpoken, IsSpokenCall}
 
@@ -61,30 +62,10 @@ field_small low high w =
 
 -- ---- bytes
 
--- what digits can give
-abbrev IsDecoded : List ℕ → List ℕ → Type 0
-IsDecoded w bytes = IsBytes bytes × (length bytes ≤ length w)
-
-decoded_pairs : (w : List ℕ) (r : Result (List ℕ) FromHexError) → decode_pairs 0 w ≡ r → IfOk r (IsDecoded w)
-decoded_pairs w (Ok bytes) e = let d = decode_pairs-ok 0 w bytes e in let l = d.1 in (d.2, omega (arith, l))
-decoded_pairs w (Err e) s = tt
-
-decoded_by : (odd : Bool) (w : List ℕ) → IfOk (cond odd (Err OddLength) (decode_pairs 0 w)) (IsDecoded w)
-decoded_by true w = tt
-decoded_by false w = decoded_pairs w _ refl
-
-decoded : (w : List ℕ) → IfOk (decode_of w) (IsDecoded w)
-decoded w = decoded_by _ w
-
 plain_good : (w : List ℕ) (r : Result (List ℕ) FromHexError) → length w ≤ 16777216 → IfOk r (IsDecoded w) → IfOk (plain_data r) IsData
 plain_good w (Ok []) short h = tt
 plain_good w (Ok (b ∷ bs)) short h = let l = h.1 in record { each = h.0; few = omega (arith, l, short) }
 plain_good w (Err e) short h = tt
-
-bytes_many : (n b : ℕ) → b < 256 → IsBytes (replicate n b)
-bytes_many zero b h i = omega arith
-bytes_many (suc n) b h zero = h
-bytes_many (suc n) b h (suc i) = bytes_many n b h i
 
 counted_good : (many : Bool) (n b : ℕ) → nat_lt 16777216 n ≡ many → b < 256 → IfOk (cond many (Err data_errors.Field) (Ok (replicate n b))) IsData
 counted_good true n b e small = tt
@@ -220,7 +201,8 @@ module _ (version : ℕ) where
   upgrade_version (Some (said.Does line what)) e = e
   upgrade_version _ e = absurd (false≢true e)
 
-  what_good : (h : Header) (names : List (List ℕ)) (v : Verb) (ws : List (List ℕ)) (last : Option Said) → AreShort ws → may_follow version last (key.Does v) ≡ true → IfOk (what_says h names v ws) GoodWhat
+  what_good : (h : Header) (names : List (List ℕ)) (v : Verb) (ws : List (List ℕ)) (last : Option Said) → AreShort ws → may_follow version last (key.Does v) ≡ true
+      → IfOk (what_says h names v ws) GoodWhat
   unfolding what_says
   what_good h names verb.Read ws last short e = read_good names ws
   what_good h names verb.Write ws last short e = write_good names ws short

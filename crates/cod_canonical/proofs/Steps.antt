@@ -7,18 +7,18 @@ use Rattle.std.proofs.lemmas.Bool.Decides.{nat_tests}
 use Rattle.std.proofs.lemmas.List.{map_push}
 use Rattle.cod_words.specs.Words.{lines_of}
 use Rattle.cod_words.proofs.Round.{words_of_line}
-use Rattle.cod_scenario.specs.declared.line.Line.{Line}
+use Rattle.cod_script.specs.declared.line.Line.{Line}
 use Rattle.cod_scenario.specs.declared.said.Header.{Header}
 use Rattle.cod_scenario.specs.declared.said.Keyword.{Keyword}
 use Rattle.cod_scenario.specs.declared.said.Said.{Said}
 use Rattle.cod_scenario.specs.declared.said.Said.TheVariants as said
-use Rattle.cod_scenario.specs.Plan.{Client}
-use Rattle.cod_scenario.specs.Lines.{Parts, no_parts, no_header, header_of, parts_of, segments_of, clients_of, client_names, weight_of, line_weight, with_line, onto_last, noted, has_room}
+use Rattle.cod_script.specs.Script.{Client, Body, onto_last}
+use Rattle.cod_scenario.specs.Lines.{no_body, no_header, header_of, body_of, segments_of, clients_of, client_names, weight_of, line_weight, with_line, noted, holds}
 use Rattle.cod_scenario.specs.Judge.{keyword_of, may_follow, rest_says, words_mean, words_say, carried, all_say, line_says, lines_say, is_plain_byte, is_placed, is_segment, is_end, last_of}
-use Rattle.cod_scenario.specs.Text.{line_text}
+use Rattle.cod_script.specs.Text.{line_text}
 use Rattle.cod_scenario.proofs.Totals.{header_early, header_late, weight_early, weight_late}
-use Rattle.cod_scenario.proofs.Gathering.{parts_more}
-use Rattle.cod_scenario.proofs.Soundness.{length_more, last_more}
+use Rattle.cod_scenario.proofs.Gathering.{body_more, length_more}
+use Rattle.cod_scenario.proofs.Soundness.{last_more}
 use Rattle.cod_canonical.specs.Again.{unnumbered_line, unnumbered_client}
 use Rattle.cod_canonical.proofs.Texts.{IsClear, is_word, are_words, line_of, plain_line, no_return, first_line, line_text_is}
 
@@ -112,20 +112,20 @@ line_reaches before n first ws k s P p h =
 -- so many lines of a header were said
 pub record Heads (count : ℕ) (h : Header) (lines : List Said) : Type 0 where
   pub header_is : header_of lines ≡ h
-  pub parts_are : parts_of lines ≡ no_parts
+  pub parts_are : body_of lines ≡ no_body
   pub length_is : length lines ≡ count
   pub weight_is : weight_of lines ≡ 0
 
 pub heads_none : Heads 0 no_header []
-unfolding header_of parts_of weight_of
+unfolding header_of body_of weight_of
 heads_none = record { header_is = refl; parts_are = refl; length_is = refl; weight_is = refl }
 
-heads_more : (count : ℕ) (h : Header) (lines : List Said) (s : Said) → count < 8 → with_line no_parts s ≡ no_parts → Heads count h lines → Heads (count + 1) (noted h s) (lines ++ s ∷ [])
+heads_more : (count : ℕ) (h : Header) (lines : List Said) (s : Said) → count < 8 → with_line no_body s ≡ no_body → Heads count h lines → Heads (count + 1) (noted h s) (lines ++ s ∷ [])
 heads_more count h lines s lt e i =
     let n = length_more lines s in let l = i.length_is in
     record {
       header_is = header_early lines s (omega (arith, l, lt)) ∙ ap (λ (x : Header). noted x s) i.header_is;
-      parts_are = parts_more lines s ∙ (ap (λ p. with_line p s) i.parts_are ∙ e);
+      parts_are = body_more lines s ∙ (ap (λ p. with_line p s) i.parts_are ∙ e);
       length_is = omega (arith, n, l);
       weight_is = weight_early lines s (omega (arith, l, lt));
     }
@@ -140,7 +140,7 @@ pub record PassesHead (h : Header) (last : Option Said) (n : ℕ) (first : List 
   pub stands : may_follow h.version last k ≡ true
   pub read : rest_says h [] [] n k ws ≡ Ok s
   pub no_segment : is_segment s ≡ false
-  pub no_part : with_line no_parts s ≡ no_parts
+  pub no_part : with_line no_body s ≡ no_body
 
 pub head_reaches : (before : List Said) (n count : ℕ) (h : Header) (last : Option Said) (first : List ℕ) (ws : List (List ℕ)) (k : Keyword) (s : Said)
     → Heads count h before → last_of before ≡ last → count < 8 → PassesHead h last n first ws k s
@@ -148,7 +148,7 @@ pub head_reaches : (before : List Said) (n count : ℕ) (h : Header) (last : Opt
 head_reaches before n count h last first ws k s i l lt p =
     let len = i.length_is in
     let none = weight_early before s (omega (arith, len, lt)) in
-    let segments : segments_of before ≡ [] = ap (λ (x : Parts). x.segments) i.parts_are in
+    let segments : segments_of before ≡ [] = ap (λ (x : Body). x.segments) i.parts_are in
     let clients : clients_of before ≡ [] = ap client_names i.parts_are in
     line_reaches before n first ws k s (λ now. Heads (count + 1) (noted h s) now × (last_of now ≡ Some s))
     (record {
@@ -166,7 +166,7 @@ head_reaches before n count h last first ws k s i l lt p =
 
 -- ---- behind the header
 
-abbrev pub unnumbered_parts : Parts → Parts
+abbrev pub unnumbered_parts : Body → Body
 unnumbered_parts p = record p { clients = map unnumbered_client p.clients }
 
 abbrev pub unnumbered_said : Said → Said
@@ -174,14 +174,14 @@ unnumbered_said (said.Does line what) = said.Does 0 what
 unnumbered_said s = s
 
 -- what was said gives these parts, and leaves so much of the weight
-pub record Stands (h : Header) (q : Parts) (left : ℕ) (lines : List Said) : Type 0 where
+pub record Stands (h : Header) (q : Body) (left : ℕ) (lines : List Said) : Type 0 where
   pub header_is : header_of lines ≡ h
-  pub parts_are : unnumbered_parts (parts_of lines) ≡ q
+  pub parts_are : unnumbered_parts (body_of lines) ≡ q
   pub late : 8 ≤ length lines
   pub light : weight_of lines + left ≤ 268435456
 
 -- equal parts, and no more of the weight
-pub leaves : {h : Header} {q p : Parts} {left less : ℕ} {lines : List Said} → Stands h q left lines → q ≡ p → less ≤ left → Stands h p less lines
+pub leaves : {h : Header} {q p : Body} {left less : ℕ} {lines : List Said} → Stands h q left lines → q ≡ p → less ≤ left → Stands h p less lines
 leaves i e le = let light = i.light in record { header_is = i.header_is; parts_are = i.parts_are ∙ e; late = i.late; light = omega (arith, light, le) }
 
 abbrev pub name_of : Client → List ℕ
@@ -196,13 +196,13 @@ unnumbered_onto [] l = refl
 unnumbered_onto (c ∷ []) l = ap (λ (ls : List Line). (record { name = c.name; lines = ls }) ∷ []) (map_push unnumbered_line c.lines l)
 unnumbered_onto (c ∷ d ∷ cs) l = ap (λ x. unnumbered_client c ∷ x) (unnumbered_onto (d ∷ cs) l)
 
-unnumbered_step : (p : Parts) (s : Said) → unnumbered_parts (with_line p s) ≡ with_line (unnumbered_parts p) (unnumbered_said s)
+unnumbered_step : (p : Body) (s : Said) → unnumbered_parts (with_line p s) ≡ with_line (unnumbered_parts p) (unnumbered_said s)
 unnumbered_step p (said.Client name) = ap (λ (cs : List Client). record p { clients = cs }) (map_push unnumbered_client p.clients (record { name = name; lines = [] }))
 unnumbered_step p (said.Does line what) = ap (λ (cs : List Client). record p { clients = cs }) (unnumbered_onto p.clients (record { line = line; what = what }))
 unnumbered_step p _ = refl
 
 -- a line behind the header
-pub record PassesThere (h : Header) (q : Parts) (last : Option Said) (n : ℕ) (first : List ℕ) (ws : List (List ℕ)) (k : Keyword) (s : Said) : Type 0 where
+pub record PassesThere (h : Header) (q : Body) (last : Option Said) (n : ℕ) (first : List ℕ) (ws : List (List ℕ)) (k : Keyword) (s : Said) : Type 0 where
   pub clear : IsClear first
   pub no_comment : nat_eq (slice_index first 0) 35 ≡ false
   pub words : AllByRecursion IsClear ws
@@ -210,17 +210,17 @@ pub record PassesThere (h : Header) (q : Parts) (last : Option Said) (n : ℕ) (
   pub keyword : keyword_of first ≡ Some k
   pub stands : may_follow h.version last k ≡ true
   pub read : rest_says h q.segments (client_names q) n k ws ≡ Ok s
-  pub placed : (not (is_segment s) || has_room h (length q.segments + 1)) ≡ true
+  pub placed : (not (is_segment s) || holds h (length q.segments + 1)) ≡ true
 
-pub there_reaches : (before : List Said) (n : ℕ) (h : Header) (q : Parts) (left : ℕ) (last : Option Said) (first : List ℕ) (ws : List (List ℕ)) (k : Keyword) (s : Said)
+pub there_reaches : (before : List Said) (n : ℕ) (h : Header) (q : Body) (left : ℕ) (last : Option Said) (first : List ℕ) (ws : List (List ℕ)) (k : Keyword) (s : Said)
     → Stands h q (line_weight h s + left) before → last_of before ≡ last → PassesThere h q last n first ws k s
     → Reaches before n (line_text first ws) (λ now. Stands h (with_line q (unnumbered_said s)) left now × (last_of now ≡ Some s))
 there_reaches before n h q left last first ws k s i l p =
     let late = i.late in
     let light = i.light in
     let more : weight_of (before ++ s ∷ []) ≡ weight_of before + line_weight h s = weight_late before s late ∙ ap (λ (x : Header). weight_of before + line_weight x s) i.header_is in
-    let segments : segments_of before ≡ q.segments = ap (λ (x : Parts). x.segments) i.parts_are in
-    let clients : clients_of before ≡ client_names q = sym (names_unnumbered (parts_of before).clients) ∙ ap client_names i.parts_are in
+    let segments : segments_of before ≡ q.segments = ap (λ (x : Body). x.segments) i.parts_are in
+    let clients : clients_of before ≡ client_names q = sym (names_unnumbered (body_of before).clients) ∙ ap client_names i.parts_are in
     let len = length_more before s in
     line_reaches before n first ws k s (λ now. Stands h (with_line q (unnumbered_said s)) left now × (last_of now ≡ Some s))
     (record {
@@ -236,7 +236,7 @@ there_reaches before n h q left last first ws k s i l p =
     }) (
       record {
         header_is = header_late before s late ∙ i.header_is;
-        parts_are = ap unnumbered_parts (parts_more before s) ∙ (unnumbered_step (parts_of before) s ∙ ap (λ x. with_line x (unnumbered_said s)) i.parts_are);
+        parts_are = ap unnumbered_parts (body_more before s) ∙ (unnumbered_step (body_of before) s ∙ ap (λ x. with_line x (unnumbered_said s)) i.parts_are);
         late = omega (arith, late, len);
         light = omega (arith, more, light);
       },

@@ -1,5 +1,5 @@
 -- The lines of a text that was written line by line.
-use Rattle.std.proofs.Common.{◌≡◌, ℕ, ◌-◌, ◌≤◌, Bool, true, false, List, [], ◌∷◌, ◌++◌, length, get_or, refl, sym, ap, ◌∙◌, arith, append_assoc}
+use Rattle.std.proofs.Common.{◌≡◌, ℕ, ◌-◌, Bool, true, false, List, [], ◌∷◌, ◌++◌, length, get_or, refl, sym, ap, ◌∙◌, arith, append_assoc}
 use Rattle.std.specs.Prelude.{nat_eq, nat_le, ◌&&◌, slice_index}
 use Rattle.std.specs.List.{slice_split, All, AllByRecursion, list_all, flat_map}
 use Rattle.std.specs.Str.Lines.{strip_carriage_return}
@@ -9,9 +9,10 @@ use Rattle.std.proofs.lemmas.List.Folds.{list_all-append}
 use Rattle.std.proofs.lemmas.Bool.{and_parts}
 use Rattle.std.proofs.lemmas.Bool.Decides.{nat_tests}
 use Rattle.cod_words.specs.Words.{lines_of, but_empty_last, is_not_empty}
+use Rattle.cod_words.proofs.FirstLines.{onto_lines}
 use Rattle.cod_words.proofs.Round.{IsWord}
 use Rattle.cod_scenario.specs.Judge.{is_plain_byte}
-use Rattle.cod_scenario.specs.Text.{words_text, line_text}
+use Rattle.cod_script.specs.Text.{words_text, line_text}
 
 -- ---- the bytes of words and lines
 
@@ -68,10 +69,6 @@ no_return (c ∷ cs) e =
     stripped (c ∷ cs) _ refl (plain_no_return _ at)
 
 -- ---- the first line
-
-onto_lines : (line : List ℕ) (pieces : List (List ℕ)) → 1 ≤ length pieces → but_empty_last (line ∷ pieces) ≡ line ∷ but_empty_last pieces
-onto_lines line [] some = absurd (omega arith)
-onto_lines line (piece ∷ pieces) some = grind arith
 
 pub first_line : (line rest : List ℕ) → list_all is_plain_byte line ≡ true → lines_of (line ++ 10 ∷ rest) ≡ line ∷ lines_of rest
 first_line line rest plain =

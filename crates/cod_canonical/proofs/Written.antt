@@ -4,17 +4,17 @@ use Rattle.std.specs.Prelude.{codes}
 use Rattle.std.specs.List.{flat_map}
 use Rattle.std.proofs.Math.ListN.{get_or-map}
 use Rattle.std.proofs.lemmas.Bool.{cases_lt, lt-ltb}
-use Rattle.cod_scenario.specs.declared.line.Line.{Line}
+use Rattle.cod_script.specs.declared.line.Line.{Line}
 use Rattle.cod_scenario.specs.declared.refusal.Refusal.{Refusal}
 use Rattle.cod_scenario.specs.declared.refusal.Refusal.TheVariants.{TooLong}
-use Rattle.cod_scenario.specs.Plan.{Plan, Client, nobody}
+use Rattle.cod_script.specs.Script.{Script, Client, nobody}
 use Rattle.cod_scenario.specs.Judge.{text_says}
 use Rattle.cod_scenario.specs.Reads.{reads}
-use Rattle.cod_scenario.specs.Text.{plan_text, header_text, client_text, what_text, schedule_text, line_text, name_at}
+use Rattle.cod_script.specs.Text.{canonical_text, header_text, client_text, what_text, schedule_text, line_text, name_at}
 use Rattle.cod_canonical.specs.Again.{unnumbered, unnumbered_client, unnumbered_line, IsWrittenAgain}
 use Rattle.cod_canonical.proofs.Canonical.{is_read_again}
 
-same_header : (p : Plan) → header_text (unnumbered p) ≡ header_text p
+same_header : (p : Script) → header_text (unnumbered p) ≡ header_text p
 unfolding header_text
 same_header p = refl
 
@@ -36,24 +36,24 @@ same_schedule : (clients : List Client) (turns : List ℕ) → schedule_text (ma
 same_schedule clients [] = refl
 same_schedule clients (t ∷ turns) = ap (line_text (codes "schedule")) (same_names clients (t ∷ turns))
 
-same_text : (p : Plan) → plan_text (unnumbered p) ≡ plan_text p
+same_text : (p : Script) → canonical_text (unnumbered p) ≡ canonical_text p
 same_text p = rw (same_header p, same_clients p.segments p.clients, same_schedule p.clients p.schedule) refl
 
 too_long : (text : List ℕ) → 16777216 < length text → reads text ≡ Err (0, TooLong)
 unfolding text_says
 too_long text lt = rw (lt-ltb 16777216 (length text) lt) refl
 
-not_both : (r : Result Plan (ℕ × Refusal)) (e : ℕ × Refusal) (p : Plan) → r ≡ Err e → r ≡ Ok p → ⊥
+not_both : (r : Result Script (ℕ × Refusal)) (e : ℕ × Refusal) (p : Script) → r ≡ Err e → r ≡ Ok p → ⊥
 not_both r e p a b = cc
 
-same_ok : (r : Result Plan (ℕ × Refusal)) (p q : Plan) → r ≡ Ok p → r ≡ Ok q → p ≡ q
+same_ok : (r : Result Script (ℕ × Refusal)) (p q : Script) → r ≡ Ok p → r ≡ Ok q → p ≡ q
 same_ok r p q a b = cc
 
 pub is_written_again : IsWrittenAgain
-is_written_again text p again e r = elim (cases_lt 16777216 (length (plan_text p))) [
-  | inl lt ↦ absurd (not_both (reads (plan_text p)) (0, TooLong) again (too_long (plan_text p) lt) r)
+is_written_again text p again e r = elim (cases_lt 16777216 (length (canonical_text p))) [
+  | inl lt ↦ absurd (not_both (reads (canonical_text p)) (0, TooLong) again (too_long (canonical_text p) lt) r)
   | inr le ↦
       let found = is_read_again text p e le in
-      let same : found.0 ≡ again = same_ok (reads (plan_text p)) found.0 again found.1 r in
-      sym (same_text again) ∙ (ap (λ x. plan_text (unnumbered x)) (sym same) ∙ (ap plan_text found.2 ∙ same_text p))
+      let same : found.0 ≡ again = same_ok (reads (canonical_text p)) found.0 again found.1 r in
+      sym (same_text again) ∙ (ap (λ x. canonical_text (unnumbered x)) (sym same) ∙ (ap canonical_text found.2 ∙ same_text p))
 ]

@@ -1,16 +1,17 @@
 -- A segment's bytes stay as many, and what regions tell is one of the things that others leave open.
-use Rattle.std.proofs.Common.{◌≡◌, ◌⊎◌, ℕ, ◌+◌, ◌≤◌, Bool, true, false, cond, Option, Some, None, List, [], ◌∷◌, ◌++◌, length, drop, refl, sym, ap, ◌∙◌, inl, inr, arith, length-drop}
-use Rattle.std.specs.Prelude.{IsNone, IfSome, nat_lt, ◌==◌, ◌||◌, not, bytes_eq}
-use Rattle.std.proofs.lemmas.Bool.{ltb-false, eqb-true, both_ways}
+use Rattle.std.proofs.Common.{◌≡◌, ◌⊎◌, ℕ, Bool, true, false, cond, Option, Some, None, List, [], ◌∷◌, ◌++◌, length, drop, refl, sym, ap, ◌∙◌, inl, inr, arith, length-drop}
+use Rattle.std.specs.Prelude.{IsNone, IfSome, bytes_eq}
+use Rattle.std.proofs.lemmas.Bool.{both_ways}
 use Rattle.std.proofs.lemmas.List.{append-nil, append_assoc, length-take, length-replicate}
 use Rattle.cod_types.specs.Limits.{Shape, segment_length}
 use Rattle.cod_types.specs.Overwritten.{overwritten}
 use Rattle.cod_types.specs.Plain.{refusal, plain_next, bytes_at}
+use Rattle.cod_types.proofs.Refusals.{reads_inside, writes_update, swaps_update, puts_whole}
 use Rattle.cod_types.proofs.Replaced.{length-overwritten}
 use Rattle.cod_types.specs.declared.call.Call.{Call as Asked}
 use Rattle.cod_types.specs.declared.call.Call.TheVariants.{Read, Write, Swap, Put, Merge, Tick, Rebuild, Upgrade, Drain}
 use Rattle.cod_types.specs.declared.call.Reply.{Reply}
-use Rattle.cod_types.specs.declared.call.Reply.TheVariants.{Bytes, Done, Differs, Range, Long, Whole, NoSpare, NoMem, Clear}
+use Rattle.cod_types.specs.declared.call.Reply.TheVariants.{Bytes, Done, Differs, Whole, NoSpare, NoMem, Clear}
 use Rattle.cod_types.specs.declared.reasons.Reason.{Reason}
 use Rattle.std.specs.List.{last_or}
 use Rattle.cod_chronicle.specs.declared.entry.Entry.{Entry}
@@ -21,49 +22,18 @@ use Rattle.cod_chronicle.specs.Laws.{KeepsLength, IsLegalIfTold}
 use Rattle.cod_chronicle.proofs.Growth.{bytes_of-push}
 use Rattle.cod_chronicle.proofs.Legality.{refusal_refuses}
 
--- a read that isn't refused is within the segment
-read_within : (g : Shape) (off len : ℕ) → refusal g (Read off len) ≡ None → off + len ≤ segment_length g
-read_within g off len r = by (nat_lt (segment_length g) (off + len)) refl r where
-  by : (o : Bool) → nat_lt (segment_length g) (off + len) ≡ o → cond o (Some Range) None ≡ None → off + len ≤ segment_length g
-  by true e r = cc
-  by false e r = ltb-false (segment_length g) (off + len) e
-
-write_within : (g : Shape) (off : ℕ) (bytes : List ℕ) → refusal g (Write off bytes) ≡ None → off + length bytes ≤ segment_length g
-write_within g off bytes r = by (nat_lt (segment_length g) (off + length bytes)) (nat_lt g.update (length bytes)) refl r where
-  by : (o u : Bool) → nat_lt (segment_length g) (off + length bytes) ≡ o → cond o (Some Range) (cond u (Some Long) None) ≡ None → off + length bytes ≤ segment_length g
-  by true u e r = cc
-  by false u e r = ltb-false (segment_length g) (off + length bytes) e
-
--- a swap that isn't refused is too, and brings as many bytes as it takes
-record SwapWithin (g : Shape) (off : ℕ) (old new : List ℕ) : Type 0 where
-  within : off + length old ≤ segment_length g
-  same : length new ≡ length old
-
-swap_within : (g : Shape) (off : ℕ) (old new : List ℕ) → refusal g (Swap off old new) ≡ None → SwapWithin g off old new
-swap_within g off old new r = by (nat_lt (segment_length g) (off + length old)) (nat_lt g.update (length new)) (length new == length old) refl refl r where
-  by : (o u s : Bool) → nat_lt (segment_length g) (off + length old) ≡ o → (length new == length old) ≡ s → cond o (Some Range) (cond (u || not s) (Some Long) None) ≡ None → SwapWithin g off old new
-  by true u s e f r = cc
-  by false true s e f r = cc
-  by false false false e f r = cc
-  by false false true e f r = record { within = ltb-false (segment_length g) (off + length old) e; same = eqb-true (length new) (length old) f }
-
 -- a call that isn't refused leaves as many bytes
 next_keeps : (g : Shape) (b : List ℕ) (call : Asked) → refusal g call ≡ None → length b ≡ segment_length g → length (plain_next b call) ≡ segment_length g
 next_keeps g b (Read off len) r e = e
-next_keeps g b (Write off bytes) r e = (let w = write_within g off bytes r in length-overwritten off bytes b (omega arith) ∙ e)
+next_keeps g b (Write off bytes) r e = (let w = (writes_update g off bytes r).inside in length-overwritten off bytes b (omega arith) ∙ e)
 next_keeps g b (Swap off old new) r e =
-    let w = swap_within g off old new r in
-    let within = w.within in
-    let same = w.same in
+    let within = (swaps_update g off old new r).update.inside in
     let l = length-overwritten off new b (omega arith) ∙ e in
     either (bytes_eq (bytes_at b off (length old)) old) l where
       either : (t : Bool) → length (overwritten off new b) ≡ segment_length g → length (cond t (overwritten off new b) b) ≡ segment_length g
       either true l = l
       either false l = e
-next_keeps g b (Put bytes) r e = by (length bytes == segment_length g) refl r where
-  by : (o : Bool) → (length bytes == segment_length g) ≡ o → cond o None (Some Long) ≡ None → length bytes ≡ segment_length g
-  by true f r = eqb-true (length bytes) (segment_length g) f
-  by false f r = cc
+next_keeps g b (Put bytes) r e = puts_whole g bytes r
 next_keeps g b Merge r e = e
 next_keeps g b Tick r e = e
 next_keeps g b Rebuild r e = e
@@ -88,7 +58,8 @@ step_keeps site before (Down stamp col node cause) after l f = rw (bytes_of-push
 step_keeps site before (Up stamp col node) after l f = rw (bytes_of-push site before (Up stamp col node)) l
 step_keeps site before (Move stamp col node) after l f = rw (bytes_of-push site before (Move stamp col node)) l
 
-length_after : (site : Site) (before h : List Entry) → length (bytes_of site before) ≡ segment_length site.shape → LegalAfter site before h → length (bytes_of site (before ++ h)) ≡ segment_length site.shape
+length_after : (site : Site) (before h : List Entry) → length (bytes_of site before) ≡ segment_length site.shape → LegalAfter site before h
+    → length (bytes_of site (before ++ h)) ≡ segment_length site.shape
 length_after site before [] l f = rw (append-nil before) l
 length_after site before (e ∷ h) l f =
     let a = append_assoc before (e ∷ []) h in
@@ -103,7 +74,7 @@ keeps_length site h l = length_after site [] h (at_first site) l
 module _ (g : Shape) (nodes s : ℕ) where
   open_plain : (b : List ℕ) (call : Asked) (reply : Reply) → refusal g call ≡ None → length b ≡ segment_length g → IsPlain true b call reply → IsPlain false b call reply
   open_plain b (Read off len) reply r l p =
-      let w = read_within g off len r in
+      let w = reads_inside g off len r in
       let n : length (bytes_at b off len) ≡ len = (let t = length-take len (drop off b) in let d = length-drop off b in omega arith) in
       let same : Bytes (bytes_at b off len) ≡ reply = cc in
       (bytes_at b off len, sym same, n)
@@ -112,8 +83,9 @@ module _ (g : Shape) (nodes s : ℕ) where
     by : (t : Bool) → cond t (Some Done) (Some (Differs (bytes_at b off (length old)))) ≡ Some reply → (reply ≡ Done) ⊎ ((bytes : List ℕ) × (reply ≡ Differs bytes) × (length bytes ≡ length old))
     by true p = (let same : Done ≡ reply = cc in inl (sym same))
     by false p =
-        let w = swap_within g off old new r in
-        let within = w.within in
+        let w = swaps_update g off old new r in
+        let within = w.update.inside in
+        let same = w.same in
         let n : length (bytes_at b off (length old)) ≡ length old = (let t = length-take (length old) (drop off b) in let d = length-drop off b in omega arith) in
         let same : Differs (bytes_at b off (length old)) ≡ reply = cc in
         inr (bytes_at b off (length old), sym same, n)
@@ -154,7 +126,8 @@ module _ (g : Shape) (nodes s : ℕ) where
   none_of None n = refl
   none_of (Some r) n = cc
 
-  open_fits : (before : List Entry) (e : Entry) (after : List Entry) → length (bytes_of (site_as true g nodes s) before) ≡ segment_length g → Fits (site_as true g nodes s) before e after → Fits (site_as false g nodes s) before e after
+  open_fits : (before : List Entry) (e : Entry) (after : List Entry) → length (bytes_of (site_as true g nodes s) before) ≡ segment_length g → Fits (site_as true g nodes s) before e after
+      → Fits (site_as false g nodes s) before e after
   open_fits before (Call caller number stamp call reply) after l f = record {
     refused = f.refused;
     lost = f.lost;
@@ -162,9 +135,11 @@ module _ (g : Shape) (nodes s : ℕ) where
   }
   open_fits before (Down stamp col node cause) after l f = record { column = f.column; live = f.live; there = f.there }
   open_fits before (Up stamp col node) after l f = (let a = f.arrives in record { down = f.down; arrives = record { enough = a.enough; there = a.there; free = a.free }; rebuild = f.rebuild })
-  open_fits before (Move stamp col node) after l f = (let a = f.arrives in record { column = f.column; live = f.live; arrives = record { enough = a.enough; there = a.there; free = a.free }; drain = f.drain })
+  open_fits before (Move stamp col node) after l f = (let a = f.arrives in
+      record { column = f.column; live = f.live; arrives = record { enough = a.enough; there = a.there; free = a.free }; drain = f.drain })
 
-  open_after : (before h : List Entry) → length (bytes_of (site_as true g nodes s) before) ≡ segment_length g → LegalAfter (site_as true g nodes s) before h → LegalAfter (site_as false g nodes s) before h
+  open_after : (before h : List Entry) → length (bytes_of (site_as true g nodes s) before) ≡ segment_length g → LegalAfter (site_as true g nodes s) before h
+      → LegalAfter (site_as false g nodes s) before h
   open_after before [] l f = tt
   open_after before (e ∷ h) l f = (open_fits before e h l f.0, open_after (before ++ e ∷ []) h (step_keeps (site_as true g nodes s) before e h l f.0) f.1)
 

@@ -1,14 +1,15 @@
 -- How many entries a legal chronicle has.
-use Rattle.std.proofs.Common.{◌≡◌, ◌≢◌, ℕ, zero, suc, ◌+◌, ◌*◌, ◌<◌, ◌≤◌, Bool, true, false, cond, eqb, Option, Some, None, List, [], ◌∷◌, ◌++◌, length, map, get_or, refl, sym, ap, ◌∙◌, subst, inl, inr, arith}
+use Rattle.std.proofs.Common.{◌≡◌, ◌≢◌, ℕ, zero, suc, ◌+◌, ◌*◌, ◌<◌, ◌≤◌, Bool, true, false, cond, eqb, Option, Some, None, List, [], ◌∷◌, ◌++◌, length, map}
+use Rattle.std.proofs.Common.{get_or, refl, sym, ap, ◌∙◌, subst, inl, inr, arith}
 use Rattle.std.specs.List.{filter, filter_map, AllByRecursion, AllPairs, cons_option, range_with_len}
 use Rattle.std.proofs.lemmas.Bool.{cases_lt, cases_eq, eq-eqb, ne_eqb}
 use Rattle.std.proofs.lemmas.List.{length-append, length-map}
 use Rattle.cod_chronicle.specs.declared.entry.Entry.{Entry}
 use Rattle.cod_chronicle.specs.declared.entry.Entry.TheVariants.{Call, Down, Up, Move}
-use Rattle.cod_chronicle.specs.Said.{Site, number_by, is_down, down_next, downs}
+use Rattle.cod_chronicle.specs.Said.{Site, number_by, call_count, is_down, down_next, downs}
 use Rattle.cod_chronicle.specs.Legal.{LegalAfter}
 use Rattle.cod_chronicle.specs.Order.{place, placed_from}
-use Rattle.cod_chronicle.specs.Laws.{CallsBelow, IsFew}
+use Rattle.cod_chronicle.specs.Laws.{CallsBelow, HasFewEntries, HasFewCalls}
 use Rattle.cod_chronicle.proofs.Growth.{is_down-push}
 
 -- two tests that differ at c alone
@@ -72,14 +73,6 @@ count p a (suc m) = (let h = count p (a + 1) m in by (p a) a (filter p (range_wi
   by true i xs h = omega arith
   by false i xs h = omega arith
 
--- how many calls, and how many marks, weighed: a Down 1, an Up 1 with the Down that it makes good
-calls : List Entry → ℕ
-calls [] = 0
-calls ((Call caller number stamp call reply) ∷ h) = calls h + 1
-calls ((Down stamp col node cause) ∷ h) = calls h
-calls ((Up stamp col node) ∷ h) = calls h
-calls ((Move stamp col node) ∷ h) = calls h
-
 same_count : (p q : ℕ → Bool) → ((i : ℕ) → p i ≡ q i) → (xs : List ℕ) → length (filter p xs) ≡ length (filter q xs)
 same_count p q f [] = refl
 same_count p q f (x ∷ xs) = rw (f x) (by (q x) x (filter p xs) (filter q xs) (same_count p q f xs)) where
@@ -95,8 +88,8 @@ changed : (before : List Entry) (e : Entry) (c : ℕ) → ((i : ℕ) (d : Bool) 
 changed before e c f i ne = sym (is_down-push before e i ∙ f i (is_down before i) ne)
 
 -- entries left, against the calls left: three for each call, and one for each column that is up now
-bound : (site : Site) (before h : List Entry) → LegalAfter site before h → length h + length (downs site before) ≤ 3 * calls h + site.shape.n
-unfolding calls
+bound : (site : Site) (before h : List Entry) → LegalAfter site before h → length h + length (downs site before) ≤ 3 * call_count h + site.shape.n
+unfolding call_count
 bound site before [] l = (let c = count (λ i. is_down before i) 0 site.shape.n in omega arith)
 bound site before ((Call caller number stamp call reply) ∷ h) l =
     let e : Entry = Call caller number stamp call reply in
@@ -171,8 +164,9 @@ sum_one f g c (suc n) l h one = elim (cases_eq c n) [
 ]
 
 -- the calls, caller by caller
-by_callers : (callers numbers : ℕ) (h : List Entry) → AllByRecursion (CallsBelow callers numbers) h → calls h ≤ sum_to (λ c. length (filter_map (number_by c) h)) callers
-unfolding calls
+by_callers : (callers numbers : ℕ) (h : List Entry) → AllByRecursion (CallsBelow callers numbers) h
+    → call_count h ≤ sum_to (λ c. length (filter_map (number_by c) h)) callers
+unfolding call_count
 by_callers callers numbers [] a = omega arith
 by_callers callers numbers ((Call caller number stamp call reply) ∷ h) a =
     let r = by_callers callers numbers h a.1 in
@@ -184,9 +178,9 @@ by_callers callers numbers ((Call caller number stamp call reply) ∷ h) a =
       longer : (o : Option ℕ) (xs : List ℕ) → length xs ≤ length (cons_option o xs)
       longer None xs = omega arith
       longer (Some x) xs = omega arith
-by_callers callers numbers ((Down stamp col node cause) ∷ h) a = by_callers callers numbers h a.1
-by_callers callers numbers ((Up stamp col node) ∷ h) a = by_callers callers numbers h a.1
-by_callers callers numbers ((Move stamp col node) ∷ h) a = by_callers callers numbers h a.1
+by_callers callers numbers ((Down stamp col node cause) ∷ h) a = (let r = by_callers callers numbers h a.1 in omega (arith, r))
+by_callers callers numbers ((Up stamp col node) ∷ h) a = (let r = by_callers callers numbers h a.1 in omega (arith, r))
+by_callers callers numbers ((Move stamp col node) ∷ h) a = (let r = by_callers callers numbers h a.1 in omega (arith, r))
 
 numbers_below : (callers numbers c : ℕ) (h : List Entry) → AllByRecursion (CallsBelow callers numbers) h → AllByRecursion (λ n. n < numbers) (filter_map (number_by c) h)
 numbers_below callers numbers c [] a = tt
@@ -203,13 +197,15 @@ at n [] a k l = absurd (omega arith)
 at n (m ∷ ms) a zero l = a.0
 at n (m ∷ ms) a (suc k) l = at n ms a.1 k (omega arith)
 
-pub few : IsFew
-few site callers numbers h l c a =
-    let b = bound site [] h l in
+pub has_few_entries : HasFewEntries
+has_few_entries site h l = (let b = bound site [] h l in omega (arith, b))
+
+pub has_few_calls : HasFewCalls
+has_few_calls callers numbers h c a =
     let s = by_callers callers numbers h a in
     let m = sum_most (λ c. length (filter_map (number_by c) h)) numbers callers
     (λ i lt. rising numbers (filter_map (number_by i) h) (c.numbers i) (at numbers (filter_map (number_by i) h) (numbers_below callers numbers i h a))) in
-    omega arith
+    omega (arith, s, m)
 
 -- all entries of all segments
 pub placed_few : (most i : ℕ) (hs : List (List Entry)) → AllByRecursion (λ h. length h ≤ most) hs → length (placed_from i hs) ≤ length hs * most

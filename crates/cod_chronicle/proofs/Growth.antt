@@ -1,15 +1,18 @@
 -- A chronicle with one more entry.
-use Rattle.std.proofs.Common.{◌≡◌, ℕ, ◌+◌, ◌<◌, Bool, false, cond, Option, Some, None, List, [], ◌∷◌, ◌++◌, length, get_or, refl, sym, ap, ◌∙◌, subst, inl, inr, arith}
+use Rattle.std.proofs.Common.{◌≡◌, ℕ, ◌+◌, ◌<◌, Bool, false, cond, Option, Some, None, List, [], ◌∷◌, ◌++◌, length, get_or, refl, sym, ap, ◌∙◌, subst, inl, inr}
+use Rattle.std.proofs.Common.{arith}
 use Rattle.std.specs.List.{fold, cons_option, All, AllPairs}
 use Rattle.std.proofs.lemmas.Bool.{cases_eq, eq-eqb, ne_eqb}
 use Rattle.std.proofs.lemmas.List.{append-nil, length-append, get_or_append_left, get_or-append-add}
 use Rattle.std.proofs.lemmas.List.Elements.{filter_map-append}
 use Rattle.std.proofs.lemmas.List.Quantifiers.{all_pairs_push}
 use Rattle.std.proofs.lemmas.List.Sums.{fold-append}
+use Rattle.cod_types.specs.Columns.{home_of}
 use Rattle.cod_types.specs.Plain.{zeros}
 use Rattle.cod_chronicle.specs.declared.entry.Entry.{Entry}
 use Rattle.cod_chronicle.specs.declared.entry.Entry.TheVariants.{Call, Down, Up, Move}
-use Rattle.cod_chronicle.specs.Said.{Site, stamp_of, clock_of, Follows, StampFollows, RisesFrom, StampsRise, number_by, numbers_by, NumberFollows, IsChronicle, is_down, down_next, home, node_of, node_next, bytes_of, bytes_next}
+use Rattle.cod_chronicle.specs.Said.{Site, stamp_of, clock_of, Precedes, StampFollows, RisesFrom, StampsRise, number_by, numbers_by, NumberFollows, IsChronicle}
+use Rattle.cod_chronicle.specs.Said.{counts, call_count, is_down, down_next, fault_of, fault_next, node_of, node_next, bytes_of, bytes_next}
 use Rattle.cod_chronicle.specs.Laws.{IsChronicleBehind, SaysEachNext}
 
 pub clock_of-push : (h : List Entry) (e : Entry) → clock_of (h ++ e ∷ []) ≡ stamp_of e
@@ -19,24 +22,32 @@ pub is_down-push : (h : List Entry) (e : Entry) (i : ℕ) → is_down (h ++ e �
 is_down-push h e i = fold-append (λ d e. down_next i d e) false h (e ∷ [])
 
 pub node_of-push : (site : Site) (h : List Entry) (e : Entry) (i : ℕ) → node_of site (h ++ e ∷ []) i ≡ node_next i (node_of site h i) e
-node_of-push site h e i = fold-append (λ x e. node_next i x e) (home site i) h (e ∷ [])
+node_of-push site h e i = fold-append (λ x e. node_next i x e) (home_of site.segment i site.nodes) h (e ∷ [])
+
+pub fault_of-push : (h : List Entry) (e : Entry) (i : ℕ) → fault_of (h ++ e ∷ []) i ≡ fault_next i (fault_of h i) e
+fault_of-push h e i = fold-append (λ f e. fault_next i f e) None h (e ∷ [])
+
+pub call_count-push : (h : List Entry) (e : Entry) → call_count (h ++ e ∷ []) ≡ call_count h + counts e
+unfolding call_count
+call_count-push [] e = omega arith
+call_count-push (x ∷ h) e = (let b = call_count-push h e in omega (arith, b))
 
 pub bytes_of-push : (site : Site) (h : List Entry) (e : Entry) → bytes_of site (h ++ e ∷ []) ≡ bytes_next (bytes_of site h) e
 bytes_of-push site h e = fold-append (λ b e. bytes_next b e) (zeros site.shape) h (e ∷ [])
 
 pub says_next : SaysEachNext
-says_next site h e = record { clock = clock_of-push h e; down = is_down-push h e; node = node_of-push site h e; bytes = bytes_of-push site h e }
+says_next site h e = record { clock = clock_of-push h e; down = is_down-push h e; node = node_of-push site h e; bytes = bytes_of-push site h e; calls = call_count-push h e; fault = fault_of-push h e }
 
 -- a stamp that follows the clock may come
-pub stamp_follows : (h : List Entry) (t : ℕ) → Follows (clock_of h) t → StampFollows h t
+pub stamp_follows : (h : List Entry) (t : ℕ) → Precedes (clock_of h) t → StampFollows h t
 stamp_follows [] t f = tt
 stamp_follows (e ∷ h) t f = f
 
-rises_push : (t : ℕ) (h : List Entry) (e : Entry) → RisesFrom t h → Follows (fold (λ t e. stamp_of e) t h) (stamp_of e) → RisesFrom t (h ++ e ∷ [])
+pub rises_push : (t : ℕ) (h : List Entry) (e : Entry) → RisesFrom t h → Precedes (fold (λ t e. stamp_of e) t h) (stamp_of e) → RisesFrom t (h ++ e ∷ [])
 rises_push t [] e r f = (f, tt)
 rises_push t (x ∷ h) e r f = (r.0, rises_push (stamp_of x) h e r.1 f)
 
-rises_last : (t : ℕ) (h : List Entry) (e : Entry) → RisesFrom t (h ++ e ∷ []) → Follows (fold (λ t e. stamp_of e) t h) (stamp_of e)
+rises_last : (t : ℕ) (h : List Entry) (e : Entry) → RisesFrom t (h ++ e ∷ []) → Precedes (fold (λ t e. stamp_of e) t h) (stamp_of e)
 rises_last t [] e r = r.0
 rises_last t (x ∷ h) e r = rises_last (stamp_of x) h e r.1
 
@@ -52,7 +63,7 @@ pub numbers_by-push : (who : ℕ) (h : List Entry) (e : Entry) → numbers_by wh
 numbers_by-push who h e = filter_map-append (number_by who) h (e ∷ [])
 
 -- a mark adds no number
-numbers_same : (who : ℕ) (h : List Entry) (e : Entry) → number_by who e ≡ None → numbers_by who (h ++ e ∷ []) ≡ numbers_by who h
+pub numbers_same : (who : ℕ) (h : List Entry) (e : Entry) → number_by who e ≡ None → numbers_by who (h ++ e ∷ []) ≡ numbers_by who h
 numbers_same who h e none = numbers_by-push who h e ∙ ap (λ (o : Option ℕ). numbers_by who h ++ cons_option o []) none ∙ append-nil (numbers_by who h)
 
 abbrev Rises : List ℕ → Type 0

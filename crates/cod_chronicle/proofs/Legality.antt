@@ -1,5 +1,6 @@
 -- Legal chronicles, cut and joined.
-use Rattle.std.proofs.Common.{◌≡◌, ℕ, ◌+◌, ◌-◌, ◌≤◌, Bool, true, false, cond, eqb, Option, Some, None, List, [], ◌∷◌, ◌++◌, length, refl, sym, ap, ◌∙◌, subst, arith}
+use Rattle.std.proofs.Common.{◌≡◌, ℕ, ◌+◌, ◌-◌, ◌≤◌, Bool, true, false, cond, eqb, Option, Some, None, List, [], ◌∷◌, ◌++◌, length, refl, sym, ap, ◌∙◌, subst}
+use Rattle.std.proofs.Common.{arith}
 use Rattle.std.specs.Prelude.{is_some, IsNone, nat_lt, not, ◌||◌, ◌==◌}
 use Rattle.std.specs.List.{filter, AllByRecursion, range_with_len}
 use Rattle.std.proofs.lemmas.Bool.{le-ltb, lt-ltb, ltb-true, both_ways}
@@ -14,7 +15,7 @@ use Rattle.cod_chronicle.specs.declared.entry.Entry.{Entry}
 use Rattle.cod_chronicle.specs.declared.entry.Entry.TheVariants.{Call, Down, Up, Move}
 use Rattle.cod_chronicle.specs.Said.{Site, is_down, downs, is_over, node_of, is_refused}
 use Rattle.cod_chronicle.specs.Legal.{IsAnswer, IsNext, Fits, LegalAfter, IsLegal, up_of, move_of, node_id}
-use Rattle.cod_chronicle.specs.Laws.{IsInVain, IsLostForGood, IsSettled, WasLegal, IsLegalBehind}
+use Rattle.cod_chronicle.specs.Laws.{IsInVain, IsLostForGood, IsSettled, EndsSettled, WasLegal, IsLegalBehind}
 use Rattle.cod_chronicle.proofs.Growth.{is_down-push}
 
 -- a call that the numbers refuse
@@ -47,7 +48,8 @@ refusal_refuses g (Drain node) r is = cc
 filter_mono : (p q : ℕ → Bool) → ((i : ℕ) → p i ≡ true → q i ≡ true) → (xs : List ℕ) → length (filter p xs) ≤ length (filter q xs)
 filter_mono p q f [] = omega arith
 filter_mono p q f (x ∷ xs) = by (p x) (q x) refl refl (filter_mono p q f xs) (f x) where
-  by : (b c : Bool) → p x ≡ b → q x ≡ c → length (filter p xs) ≤ length (filter q xs) → (p x ≡ true → q x ≡ true) → length (cond (p x) (x ∷ filter p xs) (filter p xs)) ≤ length (cond (q x) (x ∷ filter q xs) (filter q xs))
+  by : (b c : Bool) → p x ≡ b → q x ≡ c → length (filter p xs) ≤ length (filter q xs) → (p x ≡ true → q x ≡ true)
+      → length (cond (p x) (x ∷ filter p xs) (filter p xs)) ≤ length (cond (q x) (x ∷ filter q xs) (filter q xs))
   by true true e d h g = rw (e, d) (omega arith)
   by true false e d h g = (let wrong : q x ≡ true = g e in cc)
   by false true e d h g = rw (e, d) (omega arith)
@@ -100,7 +102,7 @@ lost_after site before ((Down stamp col node cause) ∷ rest) l over =
 lost_after site before ((Up stamp col node) ∷ rest) l over = (let a = l.0.arrives in let o = a.enough in absurd (both_ways (is_over site before) o over))
 lost_after site before ((Move stamp col node) ∷ rest) l over = (let a = l.0.arrives in let o = a.enough in absurd (both_ways (is_over site before) o over))
 
-legal_right : (site : Site) (before h rest : List Entry) → LegalAfter site before (h ++ rest) → LegalAfter site (before ++ h) rest
+pub legal_right : (site : Site) (before h rest : List Entry) → LegalAfter site before (h ++ rest) → LegalAfter site (before ++ h) rest
 legal_right site before [] rest l = (let n = append-nil before in rw n l)
 legal_right site before (e ∷ h) rest l = (let a = append_assoc before (e ∷ []) h in subst (λ (k : List Entry). LegalAfter site k rest) a (legal_right site (before ++ e ∷ []) h rest l.1))
 
@@ -119,7 +121,8 @@ fits_more : (site : Site) (before : List Entry) (e : Entry) (h rest : List Entry
 fits_more site before (Call caller number stamp call reply) h rest f = f
 fits_more site before (Down stamp col node cause) h rest f = f
 fits_more site before (Up stamp col node) h rest f = record { down = f.down; arrives = f.arrives; rebuild = next_more Rebuild (Rebuilt col node) h rest f.rebuild }
-fits_more site before (Move stamp col node) h rest f = record { column = f.column; live = f.live; arrives = f.arrives; drain = next_more (Drain (node_id (node_of site before col))) (Shifted col node) h rest f.drain }
+fits_more site before (Move stamp col node) h rest f =
+    record { column = f.column; live = f.live; arrives = f.arrives; drain = next_more (Drain (node_id (node_of site before col))) (Shifted col node) h rest f.drain }
 
 -- legal entries behind a legal chronicle
 pub legal-append : (site : Site) (before h rest : List Entry) → LegalAfter site before h → LegalAfter site (before ++ h) rest → LegalAfter site before (h ++ rest)
@@ -138,7 +141,8 @@ fits_less : (site : Site) (before : List Entry) (e f : Entry) (h rest : List Ent
 fits_less site before (Call caller number stamp call reply) g h rest f = f
 fits_less site before (Down stamp col node cause) g h rest f = f
 fits_less site before (Up stamp col node) g h rest f = record { down = f.down; arrives = f.arrives; rebuild = next_less Rebuild (Rebuilt col node) g h rest f.rebuild }
-fits_less site before (Move stamp col node) g h rest f = record { column = f.column; live = f.live; arrives = f.arrives; drain = next_less (Drain (node_id (node_of site before col))) (Shifted col node) g h rest f.drain }
+fits_less site before (Move stamp col node) g h rest f =
+    record { column = f.column; live = f.live; arrives = f.arrives; drain = next_less (Drain (node_id (node_of site before col))) (Shifted col node) g h rest f.drain }
 
 fits_last : (site : Site) (before : List Entry) (e : Entry) (rest : List Entry) → (up_of (Some e) ≡ None) × (move_of (Some e) ≡ None) → Fits site before e rest → Fits site before e []
 fits_last site before (Call caller number stamp call reply) rest s f = f
@@ -150,6 +154,20 @@ legal_left : (site : Site) (before h rest : List Entry) → LegalAfter site befo
 legal_left site before [] rest l s = tt
 legal_left site before (e ∷ []) rest l s = (fits_last site before e rest s l.0, tt)
 legal_left site before (e ∷ f ∷ h) rest l s = (fits_less site before e f h rest l.0, legal_left site (before ++ e ∷ []) (f ∷ h) rest l.1 s)
+
+settled_alone : (site : Site) (before : List Entry) (e : Entry) → Fits site before e [] → IsSettled (e ∷ [])
+settled_alone site before (Call caller number stamp call reply) f = (refl, refl)
+settled_alone site before (Down stamp col node cause) f = (refl, refl)
+settled_alone site before (Up stamp col node) f = absurd f.rebuild
+settled_alone site before (Move stamp col node) f = absurd f.drain
+
+settled_after : (site : Site) (before h : List Entry) → LegalAfter site before h → IsSettled h
+settled_after site before [] l = (refl, refl)
+settled_after site before (e ∷ []) l = settled_alone site before e l.0
+settled_after site before (e ∷ f ∷ h) l = settled_after site (before ++ e ∷ []) (f ∷ h) l.1
+
+pub ends_settled : EndsSettled
+ends_settled site h l = settled_after site [] h l
 
 pub was_legal : WasLegal
 was_legal site h rest l s = legal_left site [] h rest l s
@@ -164,7 +182,3 @@ legal-push site h e l f = legal-append site [] h (e ∷ []) l (f, tt)
 -- a column comes to a node, and the call that brought it
 pub legal-pair : (site : Site) (h : List Entry) (mark call : Entry) → IsLegal site h → Fits site h mark (call ∷ []) → Fits site (h ++ mark ∷ []) call [] → IsLegal site (h ++ mark ∷ call ∷ [])
 legal-pair site h mark call l m c = legal-append site [] h (mark ∷ call ∷ []) l (m, (c, tt))
-
--- how the last entry of a legal chronicle fitted
-pub legal-last : (site : Site) (h : List Entry) (e : Entry) → IsLegal site (h ++ e ∷ []) → Fits site h e []
-legal-last site h e l = (legal_right site [] h (e ∷ []) l).0

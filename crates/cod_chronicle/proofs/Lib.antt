@@ -1,4 +1,5 @@
 pub mod Growth
+pub mod Nodes
 pub mod Answering
 pub mod Legality
 pub mod Bytes_kept
@@ -7,6 +8,10 @@ pub mod Merging
 pub mod Walking
 pub mod Entry_count
 pub mod Shares
+pub mod Adding
+pub mod Growing
+pub mod Sweeping
+pub mod Stepping
 pub mod Rows
 pub mod Wrong_rows
 pub mod Whole_rows

@@ -68,7 +68,8 @@ taken i zero (h ∷ hs) e rest is f r =
       above = tt;
       below =
           let rises : RisesFrom (stamp_of e) rest = (let a : StampsRise (e ∷ rest) = subst StampsRise h_is r.0 in a) in
-          Each-append (λ q. stamp_of e ≤ stamp_at q) (map (λ e. place i e) rest) (placed_from (i + 1) hs) (rises_above (stamp_of e) (stamp_of e) i rest (omega arith) rises) (all_not_below (stamp_of e) (i + 1) hs f r.1);
+          Each-append (λ q. stamp_of e ≤ stamp_at q) (map (λ e. place i e) rest) (placed_from (i + 1) hs)
+          (rises_above (stamp_of e) (stamp_of e) i rest (omega arith) rises) (all_not_below (stamp_of e) (i + 1) hs f r.1);
     }
 taken i (suc s) (h ∷ hs) e rest is f r =
     let t = taken (i + 1) s hs e rest is f.1 r.1 in
@@ -77,9 +78,11 @@ taken i (suc s) (h ∷ hs) e rest is f r =
     record {
       before = map (λ e. place i e) h ++ t.before;
       behind = t.behind;
-      are = ap (λ (l : List Placed). map (λ e. place i e) h ++ l) (t.are ∙ ap (λ (j : ℕ). t.before ++ place j e ∷ t.behind) z) ∙ sym (append_assoc (map (λ e. place i e) h) t.before (place (i + suc s) e ∷ t.behind));
+      are = ap (λ (l : List Placed). map (λ e. place i e) h ++ l) (t.are ∙ ap (λ (j : ℕ). t.before ++ place j e ∷ t.behind) z)
+          ∙ sym (append_assoc (map (λ e. place i e) h) t.before (place (i + suc s) e ∷ t.behind));
       without = ap (λ (l : List Placed). map (λ e. place i e) h ++ l) t.without ∙ sym (append_assoc (map (λ e. place i e) h) t.before t.behind);
-      above = Each-append (λ q. stamp_of e < stamp_at q) (map (λ e. place i e) h) t.before (Each-weaker (λ q. stamp_of e + 1 ≤ stamp_at q) (λ q. stamp_of e < stamp_at q) (λ q l. omega arith) (map (λ e. place i e) h) ones) t.above;
+      above = Each-append (λ q. stamp_of e < stamp_at q) (map (λ e. place i e) h) t.before
+          (Each-weaker (λ q. stamp_of e + 1 ≤ stamp_at q) (λ q. stamp_of e < stamp_at q) (λ q l. omega arith) (map (λ e. place i e) h) ones) t.above;
       below = t.below;
     }
 
@@ -102,17 +105,20 @@ order_end hs a = ap by_stamp (none 0 hs a) where
 -- The chronicles are told by the order of all entries.
 own : (s : ℕ) (h : List Entry) → filter (is_at s) (map (λ e. place s e) h) ≡ map (λ e. place s e) h
 own s [] = refl
-own s (e ∷ h) = ap (λ (b : Bool). cond b (place s e ∷ filter (is_at s) (map (λ e. place s e) h)) (filter (is_at s) (map (λ e. place s e) h))) (eq-eqb s s refl) ∙ ap (λ (l : List Placed). place s e ∷ l) (own s h)
+own s (e ∷ h) = ap (λ (b : Bool). cond b (place s e ∷ filter (is_at s) (map (λ e. place s e) h)) (filter (is_at s) (map (λ e. place s e) h))) (eq-eqb s s refl)
+    ∙ ap (λ (l : List Placed). place s e ∷ l) (own s h)
 
 pub foreign : (s i : ℕ) (h : List Entry) → i < s ⊎ s < i → filter (is_at s) (map (λ e. place i e) h) ≡ []
 foreign s i [] ne = refl
 foreign s i (e ∷ h) ne =
-    ap (λ (b : Bool). cond b (place i e ∷ filter (is_at s) (map (λ e. place i e) h)) (filter (is_at s) (map (λ e. place i e) h))) (ne_eqb i s (λ same. elim ne [ inl a ↦ absurd (omega arith) | inr b ↦ absurd (omega arith) ])) ∙ foreign s i h ne
+    ap (λ (b : Bool). cond b (place i e ∷ filter (is_at s) (map (λ e. place i e) h)) (filter (is_at s) (map (λ e. place i e) h)))
+    (ne_eqb i s (λ same. elim ne [ inl a ↦ absurd (omega arith) | inr b ↦ absurd (omega arith) ])) ∙ foreign s i h ne
 
 none_later : (s i : ℕ) (hs : List (List Entry)) → s < i → filter (is_at s) (placed_from i hs) ≡ []
 none_later s i [] l = refl
 none_later s i (h ∷ hs) l =
-    filter-append (is_at s) (map (λ e. place i e) h) (placed_from (i + 1) hs) ∙ ap (λ (l : List Placed). l ++ filter (is_at s) (placed_from (i + 1) hs)) (foreign s i h (inr l)) ∙ none_later s (i + 1) hs (omega arith)
+    filter-append (is_at s) (map (λ e. place i e) h) (placed_from (i + 1) hs) ∙ ap (λ (l : List Placed). l ++ filter (is_at s) (placed_from (i + 1) hs)) (foreign s i h (inr l))
+    ∙ none_later s (i + 1) hs (omega arith)
 
 -- of all entries, those of a segment
 filter-placed : (s i : ℕ) (hs : List (List Entry)) (h : List Entry) → slice_get hs s ≡ Some h → filter (is_at (i + s)) (placed_from i hs) ≡ map (λ e. place (i + s) e) h
@@ -161,6 +167,7 @@ unplaced s (g ∷ h) (f ∷ k) e =
     cc
 
 -- two equal orders are of equal chronicles
-pub same_chronicles : (hs ks : List (List Entry)) → length hs ≡ length ks → AllRise hs → AllRise ks → order hs ≡ order ks → (s : ℕ) (h k : List Entry) → slice_get hs s ≡ Some h → slice_get ks s ≡ Some k → h ≡ k
+pub same_chronicles : (hs ks : List (List Entry)) → length hs ≡ length ks → AllRise hs → AllRise ks → order hs ≡ order ks → (s : ℕ) (h k : List Entry) → slice_get hs s ≡ Some h
+    → slice_get ks s ≡ Some k → h ≡ k
 same_chronicles hs ks l a b e s h k i j =
     unplaced s h k (sym (part_of_order s hs h i (rise_of hs s h a i)) ∙ ap (filter (is_at s)) e ∙ part_of_order s ks k j (rise_of ks s k b j))

@@ -1,5 +1,6 @@
 -- Entries by their stamps.
-use Rattle.std.proofs.Common.{◌≡◌, ℕ, zero, suc, ◌+◌, ◌<◌, ◌≤◌, Bool, true, false, cond, Option, Some, None, List, [], ◌∷◌, ◌++◌, map, set, refl, sym, ap, ◌∙◌, inl, inr, arith}
+use Rattle.std.proofs.Common.{◌≡◌, ℕ, zero, suc, ◌+◌, ◌<◌, ◌≤◌, Bool, true, false, cond, Option, Some, None, List, [], ◌∷◌, ◌++◌, map, set, refl, sym, ap, ◌∙◌}
+use Rattle.std.proofs.Common.{inl, inr, arith}
 use Rattle.std.specs.Prelude.{slice_get, is_some, ⊤}
 use Rattle.std.specs.List.{filter, filter_map, AllByRecursion, cons_option}
 use Rattle.std.proofs.lemmas.Bool.{lt-ltb, le-ltb, cases_lt}
@@ -97,13 +98,15 @@ module _ (k : Placed → Bool) where
   filter-put_yes p (q ∷ qs) kept s = elim (cases_lt (stamp_at q) (stamp_at p)) [
     | inl h ↦ ap (filter k) (put_later p q qs h) ∙ ap (λ (l : List Placed). cond (k q) (q ∷ l) l) (filter-put_yes p qs kept s.1) ∙ kept_later p q qs h (k q)
     | inr h ↦ ap (filter k) (put_here p q qs h) ∙ ap (λ (b : Bool). cond b (p ∷ filter k (q ∷ qs)) (filter k (q ∷ qs))) kept
-        ∙ sym (put_low p (filter k (q ∷ qs)) (Each-filter (λ r. stamp_at p ≤ stamp_at r) k (q ∷ qs) (h, Each-weaker (λ r. stamp_at q ≤ stamp_at r) (λ r. stamp_at p ≤ stamp_at r) (λ r l. omega arith) qs s.0)))
+        ∙ sym (put_low p (filter k (q ∷ qs)) (Each-filter (λ r. stamp_at p ≤ stamp_at r) k (q ∷ qs)
+        (h, Each-weaker (λ r. stamp_at q ≤ stamp_at r) (λ r. stamp_at p ≤ stamp_at r) (λ r l. omega arith) qs s.0)))
   ] where
     kept_later : (p q : Placed) (qs : List Placed) → stamp_at q < stamp_at p → (b : Bool) → cond b (q ∷ put p (filter k qs)) (put p (filter k qs)) ≡ put p (cond b (q ∷ filter k qs) (filter k qs))
     kept_later p q qs h true = sym (put_later p q (filter k qs) h)
     kept_later p q qs h false = refl
 
-  kept_from : (p : Placed) (ps : List Placed) → filter k (by_stamp ps) ≡ by_stamp (filter k ps) → (b : Bool) → k p ≡ b → filter k (put p (by_stamp ps)) ≡ by_stamp (cond b (p ∷ filter k ps) (filter k ps))
+  kept_from : (p : Placed) (ps : List Placed) → filter k (by_stamp ps) ≡ by_stamp (filter k ps) → (b : Bool) → k p ≡ b
+      → filter k (put p (by_stamp ps)) ≡ by_stamp (cond b (p ∷ filter k ps) (filter k ps))
   kept_from p ps h true e = filter-put_yes p (by_stamp ps) e (IsSorted-by_stamp ps) ∙ ap (put p) h
   kept_from p ps h false e = filter-put_no p (by_stamp ps) e ∙ h
 
@@ -117,7 +120,7 @@ module _ {Y : Type 0} (f : Placed → Option Y) where
   keep_from None p ps qs e h = h
   keep_from (Some y) p ps qs e h = ap (λ (l : List Y). y ∷ l) h ∙ sym (ap (λ (o : Option Y). cons_option o (filter_map f qs)) e)
 
-  filter_map-keep : (ps : List Placed) → filter_map f ps ≡ filter_map f (filter (λ p. is_some (f p)) ps)
+  pub filter_map-keep : (ps : List Placed) → filter_map f ps ≡ filter_map f (filter (λ p. is_some (f p)) ps)
   filter_map-keep [] = refl
   filter_map-keep (p ∷ ps) = keep_from (f p) p ps (filter (λ p. is_some (f p)) ps) refl (filter_map-keep ps)
 

@@ -202,7 +202,8 @@ reasons_in_cyclic_order = (
       refl,
       record {
         nodes = refl;
-        whys = All-from_recursion (λ r. IsWhy (shape 1 2 1 1 1 20 1 5000) 1 r.why) (reason 3 (why.Down 11) ∷ reason 4 (why.Fault 1) ∷ reason 0 (why.Free 20) ∷ []) (omega arith, (omega arith, (omega arith, tt)));
+        whys = All-from_recursion (λ r. IsWhy (shape 1 2 1 1 1 20 1 5000) 1 r.why) (reason 3 (why.Down 11) ∷ reason 4 (why.Fault 1) ∷ reason 0 (why.Free 20) ∷ [])
+            (omega arith, (omega arith, (omega arith, tt)));
       },
     ),
     tt,

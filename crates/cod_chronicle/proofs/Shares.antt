@@ -51,8 +51,10 @@ same_parts (x ∷ xs) (y ∷ ys) a b f = elim (cases_eq y.segment x.segment) [
   | inr diff ↦
       let e : filter (is_at x.segment) ys ≡ x ∷ filter (is_at x.segment) xs = sym (elsewhere x.segment y ys diff) ∙ sym (f x.segment) ∙ here x xs in
       let d : filter (is_at y.segment) xs ≡ y ∷ filter (is_at y.segment) ys = sym (elsewhere y.segment x xs (λ k. diff (sym k))) ∙ f y.segment ∙ here y ys in
-      let low : AllByRecursion (λ q. stamp_at y < stamp_at q) (x ∷ filter (is_at x.segment) xs) = subst (λ (l : List Placed). AllByRecursion (λ q. stamp_at y < stamp_at q) l) e (Each-filter (λ q. stamp_at y < stamp_at q) (is_at x.segment) ys b.0) in
-      let high : AllByRecursion (λ q. stamp_at x ≤ stamp_at q) (y ∷ filter (is_at y.segment) ys) = subst (λ (l : List Placed). AllByRecursion (λ q. stamp_at x ≤ stamp_at q) l) d (Each-filter (λ q. stamp_at x ≤ stamp_at q) (is_at y.segment) xs a.0) in
+      let low : AllByRecursion (λ q. stamp_at y < stamp_at q) (x ∷ filter (is_at x.segment) xs) =
+      subst (λ (l : List Placed). AllByRecursion (λ q. stamp_at y < stamp_at q) l) e (Each-filter (λ q. stamp_at y < stamp_at q) (is_at x.segment) ys b.0) in
+      let high : AllByRecursion (λ q. stamp_at x ≤ stamp_at q) (y ∷ filter (is_at y.segment) ys) =
+      subst (λ (l : List Placed). AllByRecursion (λ q. stamp_at x ≤ stamp_at q) l) d (Each-filter (λ q. stamp_at x ≤ stamp_at q) (is_at y.segment) xs a.0) in
       absurd (omega arith)
 ]
 

@@ -1,5 +1,6 @@
 -- Which of many rests begins with the least stamp.
-use Rattle.std.proofs.Common.{◌≡◌, ◌⊎◌, ℕ, zero, suc, ◌+◌, ◌*◌, ◌/◌, ◌<◌, ◌≤◌, true, false, Option, Some, None, List, [], ◌∷◌, length, set, take, ◌++◌, get_or, refl, sym, ap, ◌∙◌, subst, inl, inr, arith}
+use Rattle.std.proofs.Common.{◌≡◌, ◌⊎◌, ℕ, zero, suc, ◌+◌, ◌*◌, ◌/◌, ◌<◌, ◌≤◌, true, false, Option, Some, None, List, [], ◌∷◌, length, set, take, ◌++◌, get_or, refl, sym, ap, ◌∙◌, subst, inl, inr}
+use Rattle.std.proofs.Common.{arith}
 use Rattle.std.specs.Prelude.{slice_get}
 use Rattle.std.specs.Option.{option_map}
 use Rattle.std.specs.List.{AllByRecursion, refill}
@@ -47,7 +48,10 @@ pub later_wins : (rests : List (Option Rest)) (w v from mid to : ℕ) → IsSoon
 later_wins rests w v from mid to a b sooner = record {
   low = omega (arith, a.low, a.high, b.low);
   high = b.high;
-  before = λ i low below. elim (cases_lt i mid) [ inl under ↦ (before_later (stamp_left rests v) (stamp_left rests w) (stamp_left rests i) sooner (a.all i low under)).0 | inr over ↦ b.before i over below ];
+  before = λ i low below. elim (cases_lt i mid) [
+    | inl under ↦ (before_later (stamp_left rests v) (stamp_left rests w) (stamp_left rests i) sooner (a.all i low under)).0
+    | inr over ↦ b.before i over below
+  ];
   all = λ i low below. elim (cases_lt i mid) [ inl under ↦ (before_later (stamp_left rests v) (stamp_left rests w) (stamp_left rests i) sooner (a.all i low under)).1 | inr over ↦ b.all i over below ];
 }
 
@@ -105,7 +109,8 @@ pub walk_steps : (old new : List (Option Rest)) (w : ℕ) (e : Entry) → length
 walk_steps old new w e few soonest rise t =
     let first = stamp_at_get old w (record { first = e; behind = t.behind }) t.was in
     let before : (i : ℕ) → i < w → is_sooner (Some (stamp_of e)) (stamp_left old i) ≡ true = λ i l. subst (λ s. is_sooner s (stamp_left old i) ≡ true) first (soonest.before i (omega arith) l) in
-    let all : (i : ℕ) → i < length old → is_sooner (stamp_left old i) (Some (stamp_of e)) ≡ false = λ i l. subst (λ s. is_sooner (stamp_left old i) s ≡ false) first (soonest.all i (omega arith) (omega (arith, l, few))) in
+    let all : (i : ℕ) → i < length old → is_sooner (stamp_left old i) (Some (stamp_of e)) ≡ false =
+    λ i l. subst (λ s. is_sooner (stamp_left old i) s ≡ false) first (soonest.all i (omega arith) (omega (arith, l, few))) in
     order_step w (lists_of old) e t.behind (list_was old new w e t) (is_first (stamp_of e) w old before all) rise
     ∙ ap (λ l. place w e ∷ order l) (sym (lists_then old new w e t))
 
@@ -144,7 +149,8 @@ walk_keeps old new w e soonest s within long t are is g low =
         | inr level ↦ (let same : g ≡ w / 32 = omega (arith, over, level) in rw (same, get_or-set_same soonest (w / 32) s 0 (omega (arith, long, within))) is)
       ]
     ] where
-      other : (g : ℕ) → g < 32 → (g ≡ w / 32 → ⊥) → ((i : ℕ) → g * 32 ≤ i → i < g * 32 + 32 → stamp_left new i ≡ stamp_left old i) → IsSoonest new (get_or (set soonest (w / 32) s) g 0) (g * 32) (g * 32 + 32)
+      other : (g : ℕ) → g < 32 → (g ≡ w / 32 → ⊥) → ((i : ℕ) → g * 32 ≤ i → i < g * 32 + 32 → stamp_left new i ≡ stamp_left old i)
+          → IsSoonest new (get_or (set soonest (w / 32) s) g 0) (g * 32) (g * 32 + 32)
       other g low ne same = rw (get_or-set_other soonest (w / 32) g s 0 ne) (apart old new (get_or soonest g 0) (g * 32) (g * 32 + 32) same (are g low))
 
 -- a place that is written twice

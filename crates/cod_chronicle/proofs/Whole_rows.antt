@@ -1,5 +1,5 @@
 -- Worked chronicles of several segments, and of their stamps and numbers.
-use Rattle.std.proofs.Common.{◌≡◌, ◌⊎◌, ℕ, zero, suc, ◌-◌, ◌<◌, ◌≤◌, Some, List, [], ◌∷◌, length, refl, subst, inl, inr, arith}
+use Rattle.std.proofs.Common.{true, ◌≡◌, ◌⊎◌, ℕ, zero, suc, ◌-◌, ◌<◌, ◌≤◌, Some, List, [], ◌∷◌, length, refl, subst, inl, inr, arith}
 use Rattle.std.specs.Prelude.{slice_get, slice_index_or}
 use Rattle.std.specs.List.{range_with_len}
 use Rattle.std.proofs.lemmas.List.Elements.{All-from_recursion}
@@ -10,7 +10,7 @@ use Rattle.cod_types.specs.declared.call.Reply.TheVariants.{Bytes, Done}
 use Rattle.cod_chronicle.specs.declared.entry.Entry.{Entry}
 use Rattle.cod_chronicle.specs.declared.entry.Entry.TheVariants.{Call, Down}
 use Rattle.cod_chronicle.specs.declared.entry.Cause.TheVariants.{Killed}
-use Rattle.cod_chronicle.specs.Said.{site_of, IsChronicle, last_stamp}
+use Rattle.cod_chronicle.specs.Said.{site_as, IsChronicle, last_stamp}
 use Rattle.cod_chronicle.specs.Legal.{IsLegal, node_id}
 use Rattle.cod_chronicle.specs.Order.{place, stamp_at, order, placed}
 use Rattle.cod_chronicle.specs.Whole.{HasStamp, LeavesNoGap, IsWholeLegal, numbers_of}
@@ -66,11 +66,16 @@ second_is_chronicle =
 
 -- the two segments' chronicles are one legal history
 both_are_whole_legal : IsWholeLegal (shape 1 4 2 1 1 40 1 5000) 5 (first ∷ second ∷ [])
-both_are_whole_legal = record { each = each; numbers = numbers; stamps = All-from_recursion (λ p. (stamp_at p ≤ 1) ⊎ HasStamp (placed (first ∷ second ∷ [])) (stamp_at p - 1)) (placed (first ∷ second ∷ [])) (inl (omega arith), (inr (0, omega arith, refl), (inr (1, omega arith, refl), (inl (omega arith), (inr (0, omega arith, refl), tt))))) } where
-  each : (s : ℕ) (h : List Entry) → slice_get (first ∷ second ∷ []) s ≡ Some h → IsChronicle h × IsLegal (site_of (shape 1 4 2 1 1 40 1 5000) 5 s) h
-  each zero h is = (let e : first ≡ h = cc in subst (λ (k : List Entry). IsChronicle k × IsLegal (site_of (shape 1 4 2 1 1 40 1 5000) 5 0) k) e
+both_are_whole_legal = record {
+  each = each;
+  numbers = numbers;
+  stamps = All-from_recursion (λ p. (stamp_at p ≤ 1) ⊎ HasStamp (placed (first ∷ second ∷ [])) (stamp_at p - 1)) (placed (first ∷ second ∷ []))
+      (inl (omega arith), (inr (0, omega arith, refl), (inr (1, omega arith, refl), (inl (omega arith), (inr (0, omega arith, refl), tt)))));
+} where
+  each : (s : ℕ) (h : List Entry) → slice_get (first ∷ second ∷ []) s ≡ Some h → IsChronicle h × IsLegal (site_as true (shape 1 4 2 1 1 40 1 5000) 5 s) h
+  each zero h is = (let e : first ≡ h = cc in subst (λ (k : List Entry). IsChronicle k × IsLegal (site_as true (shape 1 4 2 1 1 40 1 5000) 5 0) k) e
       (first_is_chronicle, (answer_served _ _ _ _ refl refl refl, (answer_served _ _ _ _ refl refl refl, (answer_served _ _ _ _ refl refl refl, tt)))))
-  each (suc zero) h is = (let e : second ≡ h = cc in subst (λ (k : List Entry). IsChronicle k × IsLegal (site_of (shape 1 4 2 1 1 40 1 5000) 5 1) k) e
+  each (suc zero) h is = (let e : second ≡ h = cc in subst (λ (k : List Entry). IsChronicle k × IsLegal (site_as true (shape 1 4 2 1 1 40 1 5000) 5 1) k) e
       (second_is_chronicle, (answer_served _ _ _ _ refl refl refl, (answer_served _ _ _ _ refl refl refl, tt))))
   each (suc (suc s)) h is = cc
 

@@ -1,11 +1,19 @@
 -- Laws of legal chronicles.
-use Rattle.std.specs.Prelude.{◌≡◌, ℕ, ◌+◌, ◌*◌, ◌<◌, ◌≤◌, ◌==◌, ◌↔◌, Bool, true, false, None, Some, is_some, List, [], ◌∷◌, ◌++◌, length, map, slice_get}
+use Rattle.std.specs.Prelude.{◌≡◌, ℕ, ◌+◌, ◌*◌, ◌<◌, ◌≤◌, ◌==◌, ◌↔◌, if◌then◌else◌, Bool, true, false, None, Some, List, [], ◌∷◌, ◌++◌, length, map, slice_get}
 use Rattle.std.specs.List.{AllByRecursion, filter, last_or}
 use Rattle.cod_types.specs.Limits.{Shape, segment_length}
+use Rattle.cod_types.specs.Plain.{refusal}
+use Rattle.cod_types.specs.declared.call.Caller.{Caller}
+use Rattle.cod_types.specs.declared.call.Call.{Call as Asked}
+use Rattle.cod_types.specs.declared.call.Call.TheVariants.{Write, Merge, Tick, Upgrade}
+use Rattle.cod_types.specs.declared.call.Reply.{Reply}
+use Rattle.cod_types.specs.declared.call.Reply.TheVariants.{Done, Lost}
 use Rattle.cod_chronicle.specs.declared.entry.Entry.{Entry}
-use Rattle.cod_chronicle.specs.declared.entry.Entry.TheVariants.{Call, Down}
-use Rattle.cod_chronicle.specs.Said.{Site, site_as, stamp_of, clock_of, StampFollows, NumberFollows, StampsRise, IsChronicle, number_by, is_down, down_next, is_over, node_of, node_next, bytes_of, bytes_next, is_refused}
-use Rattle.cod_chronicle.specs.Legal.{IsLegal, LegalAfter, up_of, move_of}
+use Rattle.cod_chronicle.specs.declared.entry.Entry.TheVariants.{Call, Down, Up, Move}
+use Rattle.cod_chronicle.specs.Said.{Site, site_as, stamp_of, clock_of, StampFollows, NumberFollows, StampsRise, IsChronicle, is_call_by, counts, call_count}
+use Rattle.cod_chronicle.specs.Said.{is_down, down_next}
+use Rattle.cod_chronicle.specs.Said.{is_over, node_of, node_next, fault_of, fault_next, bytes_of, bytes_next, is_refused}
+use Rattle.cod_chronicle.specs.Legal.{IsAnswer, IsLegal, LegalAfter, up_of, move_of}
 use Rattle.cod_chronicle.specs.Order.{Placed, stamp_at, place, order}
 
 -- a call that was refused, or a column that went down
@@ -26,6 +34,10 @@ IsSettled h = (up_of (last_or None h) ≡ None) × (move_of (last_or None h) ≡
 abbrev pub WasLegal : Type 0
 WasLegal = (site : Site) (h rest : List Entry) → IsLegal site (h ++ rest) → IsSettled h → IsLegal site h
 
+-- A legal chronicle ends with no Up and no Move, since each has its call behind it.
+abbrev pub EndsSettled : Type 0
+EndsSettled = (site : Site) (h : List Entry) → IsLegal site h → IsSettled h
+
 -- Behind a legal chronicle may stand exactly those entries that fit one after another.
 abbrev pub IsLegalBehind : Type 0
 IsLegalBehind = (site : Site) (h more : List Entry) → IsLegal site h → (IsLegal site (h ++ more)) ↔ (LegalAfter site h more)
@@ -40,6 +52,8 @@ pub record SaysNext (site : Site) (h : List Entry) (e : Entry) : Type 0 where
   pub down : (i : ℕ) → is_down (h ++ e ∷ []) i ≡ down_next i (is_down h i) e
   pub node : (i : ℕ) → node_of site (h ++ e ∷ []) i ≡ node_next i (node_of site h i) e
   pub bytes : bytes_of site (h ++ e ∷ []) ≡ bytes_next (bytes_of site h) e
+  pub calls : call_count (h ++ e ∷ []) ≡ call_count h + counts e
+  pub fault : (i : ℕ) → fault_of (h ++ e ∷ []) i ≡ fault_next i (fault_of h i) e
 
 abbrev pub SaysEachNext : Type 0
 SaysEachNext = (site : Site) (h : List Entry) (e : Entry) → SaysNext site h e
@@ -58,9 +72,41 @@ CallsBelow callers numbers (Call caller number stamp call reply) = (caller.0 < c
 CallsBelow callers numbers _ = Unit {0}
 
 -- A legal chronicle has few entries: each Up and each Move has its call, and each Down but the first n its Up.
-abbrev pub IsFew : Type 0
-IsFew = (site : Site) (callers numbers : ℕ) (h : List Entry) → IsLegal site h → IsChronicle h → AllByRecursion (CallsBelow callers numbers) h
-    → length h ≤ 3 * (callers * numbers) + site.shape.n
+abbrev pub HasFewEntries : Type 0
+HasFewEntries = (site : Site) (h : List Entry) → IsLegal site h → length h ≤ 3 * call_count h + site.shape.n
+
+-- So many callers, none of which uses a number twice, have made at most so many calls.
+abbrev pub HasFewCalls : Type 0
+HasFewCalls = (callers numbers : ℕ) (h : List Entry) → IsChronicle h → AllByRecursion (CallsBelow callers numbers) h → call_count h ≤ callers * numbers
+
+-- Columns are on different nodes, each of which there is.
+pub record AreApart (site : Site) (h : List Entry) : Type 0 where
+  pub differ : (i j : ℕ) → i < site.shape.n → j < site.shape.n → node_of site h i ≡ node_of site h j → i ≡ j
+  pub there : (i : ℕ) → i < site.shape.n → node_of site h i < site.nodes
+
+-- The columns of a legal chronicle are apart, where there are at least as many nodes as columns.
+abbrev pub NodesAreApart : Type 0
+NodesAreApart = (site : Site) (h : List Entry) → site.shape.n ≤ site.nodes → IsLegal site h → AreApart site h
+
+-- a call that changes no byte and is done, as long as the segment has its bytes
+abbrev pub IsQuiet : Asked → Type 0
+IsQuiet (Write off bytes) = bytes ≡ []
+IsQuiet Merge = Unit {0}
+IsQuiet Tick = Unit {0}
+IsQuiet Upgrade = Unit {0}
+IsQuiet _ = ⊥
+
+-- its reply
+abbrev pub quiet_reply : Site → List Entry → Reply
+quiet_reply site h = if is_over site h then Lost else Done
+
+-- That reply is right, and its entry leaves the bytes as they are.
+pub record IsQuietAnswer (site : Site) (h : List Entry) (call : Asked) : Type 0 where
+  pub answer : IsAnswer site h call (quiet_reply site h)
+  pub bytes : (b : List ℕ) (caller : Caller) (number stamp : ℕ) → bytes_next b (Call caller number stamp call (quiet_reply site h)) ≡ b
+
+abbrev pub AnswersQuietly : Type 0
+AnswersQuietly = (site : Site) (h : List Entry) (call : Asked) → IsQuiet call → refusal site.shape call ≡ None → IsQuietAnswer site h call
 
 -- an entry of this segment
 abbrev pub is_at : ℕ → Placed → Bool
@@ -68,7 +114,7 @@ is_at s p = p.segment == s
 
 -- a call of this caller
 abbrev pub is_by : ℕ → Placed → Bool
-is_by who p = is_some (number_by who p.entry)
+is_by who p = is_call_by who p.entry
 
 -- each stamp is smaller than all later ones
 abbrev pub Climbs : List Placed → Type 0

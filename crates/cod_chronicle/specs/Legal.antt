@@ -1,7 +1,9 @@
 -- Which chronicles are legal.
-use Rattle.std.specs.Prelude.{◌≡◌, ◌≢◌, ◌↔◌, ◌⊎◌, ℕ, ◌+◌, ◌<◌, ◌≤◌, ◌%◌, nat_lt, not, if◌then◌else◌, IsTrue, Bool, true, false, Option, Some, None, IfSome, IsNone, List, [], ◌∷◌, ◌++◌, length, map, All}
-use Rattle.std.specs.List.{filter, range_with_len, last_or}
+use Rattle.std.specs.Prelude.{◌≡◌, ◌≢◌, ◌↔◌, ◌⊎◌, ℕ, ◌<◌, ◌≤◌, not, IsTrue, Bool, true, false, Option, Some, None, IfSome}
+use Rattle.std.specs.Prelude.{IsNone, List, [], ◌∷◌, ◌++◌, length, map, All}
+use Rattle.std.specs.List.{filter, last_or}
 use Rattle.cod_types.specs.Limits.{Shape}
+use Rattle.cod_types.specs.Columns.{column_size, nodes_after}
 use Rattle.cod_types.specs.Plain.{refusal, plain_reply}
 use Rattle.cod_types.specs.declared.call.NodeId.{NodeId}
 use Rattle.cod_types.specs.declared.call.Call.{Call as Asked}
@@ -15,22 +17,14 @@ use Rattle.cod_chronicle.specs.declared.entry.Entry.{Entry}
 use Rattle.cod_chronicle.specs.declared.entry.Entry.TheVariants.{Call, Down, Up, Move}
 use Rattle.cod_chronicle.specs.Said.{Site, is_down, downs, is_over, node_of, is_taken, bytes_of}
 
--- the nodes in cyclic order after x, x itself last
-abbrev pub cycle_after : (nodes x : ℕ) → List ℕ
-cycle_after nodes x = map (λ j. (x + 1 + j) % nodes) (range_with_len 0 nodes)
-
 -- the nodes that no column is on, in cyclic order after x
 abbrev pub others : Site → List Entry → ℕ → List ℕ
-others site h x = filter (λ y. not (is_taken site h y)) (cycle_after site.nodes x)
-
--- how many bytes a spare for column c needs
-abbrev pub need : Shape → ℕ → ℕ
-need g c = if nat_lt c g.k then g.block else g.block + g.reserve
+others site h x = filter (λ y. not (is_taken site h y)) (nodes_after x site.nodes)
 
 -- why a node can't take column c: a failure's line, too few free bytes, or a count of faults
 abbrev pub IsWhy : Shape → ℕ → Why → Type 0
 IsWhy g c (why.Down line) = 1 ≤ line
-IsWhy g c (why.Free bytes) = bytes < need g c
+IsWhy g c (why.Free bytes) = bytes < column_size g c
 IsWhy g c (why.Fault count) = 1 ≤ count
 
 -- each node that could take column c has its reason, in cyclic order after the node that c had last

@@ -5,3 +5,8 @@ pub mod Standing
 pub mod Whole
 pub mod Laws
 pub mod Walk
+pub mod Event
+pub mod Adding
+pub mod Growing
+pub mod Sweep
+pub mod Step

@@ -1,5 +1,6 @@
 -- What is left of chronicles that are walked at once, and which of them begins with the least stamp.
-use Rattle.std.specs.Prelude.{◌≡◌, ℕ, ◌*◌, ◌+◌, ◌<◌, ◌≤◌, nat_lt, Bool, true, false, Option, Some, None, List, [], ◌∷◌, map, slice_get, slice_index, slice_index_or, slice_set}
+use Rattle.std.specs.Prelude.{◌≡◌, ℕ, ◌*◌, ◌+◌, ◌<◌, ◌≤◌, nat_lt, Bool, true, false, Option, Some, None, List, [], ◌∷◌, map, slice_get, slice_index}
+use Rattle.std.specs.Prelude.{slice_index_or, slice_set}
 use Rattle.cod_chronicle.specs.declared.entry.Entry.{Entry}
 use Rattle.cod_chronicle.specs.Said.{stamp_of}
 

@@ -1,5 +1,6 @@
 //! Laws of chronicles, each the contract of a function that does nothing.
-ghost use Rattle.cod_chronicle.specs.Laws.{IsChronicleBehind, IsFew, IsLegalBehind, IsLegalIfTold, IsLostForGood, KeepsEachOrder, KeepsLength, SaysEachNext, WasLegal};
+ghost use Rattle.cod_chronicle.specs.Laws.{AnswersQuietly, EndsSettled, HasFewCalls, HasFewEntries, IsChronicleBehind, IsLegalBehind, IsLegalIfTold};
+ghost use Rattle.cod_chronicle.specs.Laws.{IsLostForGood, KeepsEachOrder, KeepsLength, NodesAreApart, SaysEachNext, WasLegal};
 
 /// Once too many columns are down no column comes up or moves, and each later call is refused.
 #[tactic(auto, using(crate::proofs::Legality::lost_for_good))]
@@ -26,7 +27,6 @@ pub fn chronicle_behind()
 {}
 
 /// What a chronicle says with one entry more: its clock, its columns, their nodes and the bytes.
-#[tactic(auto, using(crate::proofs::Growth::says_next))]
 pub fn says_next()
     ensures { SaysEachNext }
 {}
@@ -43,10 +43,34 @@ pub fn legal_if_told()
     ensures { IsLegalIfTold }
 {}
 
+/// A legal chronicle ends with no column's coming to a node.
+#[tactic(auto, using(crate::proofs::Legality::ends_settled))]
+pub fn ends_settled()
+    ensures { EndsSettled }
+{}
+
+/// The columns of a legal chronicle are on different nodes.
+#[tactic(auto, using(crate::proofs::Nodes::nodes_are_apart))]
+pub fn nodes_are_apart()
+    ensures { NodesAreApart }
+{}
+
+/// A merge, a tick, an upgrade and a write of no bytes are done or lost, and change no byte.
+#[tactic(auto, using(crate::proofs::Answering::answers_quietly))]
+pub fn answers_quietly()
+    ensures { AnswersQuietly }
+{}
+
 /// A legal chronicle has at most three entries for each call, and one for each column.
-#[tactic(auto, using(crate::proofs::Entry_count::few))]
-pub fn few()
-    ensures { IsFew }
+#[tactic(auto, using(crate::proofs::Entry_count::has_few_entries))]
+pub fn has_few_entries()
+    ensures { HasFewEntries }
+{}
+
+/// A chronicle has at most as many calls as its callers have numbers.
+#[tactic(auto, using(crate::proofs::Entry_count::has_few_calls))]
+pub fn has_few_calls()
+    ensures { HasFewCalls }
 {}
 
 /// In the order of all entries a caller's calls stand as it made them.

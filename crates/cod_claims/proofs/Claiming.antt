@@ -1,14 +1,16 @@
 -- Claims that are made, marked and ended.
-use Rattle.std.proofs.Common.{◌≡◌, ◌≢◌, ℕ, zero, suc, ◌<◌, ◌==◌, Bool, true, false, cond, length, map, replicate, List, [], ◌∷◌, All, Option, Some, None, IsSome, is_some, ◌⊎◌, get_or, set, refl, sym, ap, ◌∙◌, subst, arith, inl, inr, length-set}
+use Rattle.std.proofs.Common.{◌≡◌, ◌≢◌, ℕ, zero, suc, ◌<◌, ◌==◌, Bool, true, false, cond, length, map, replicate, List, [], ◌∷◌, All, Option, Some, None, IsSome, is_some, ◌⊎◌, get_or, set, refl, sym}
+use Rattle.std.proofs.Common.{ap, ◌∙◌, subst, arith, inl, inr, length-set}
 use Rattle.std.proofs.lemmas.Grind.{get_or-set_at}
 use Rattle.std.proofs.lemmas.Bool.{cases_lt}
 use Rattle.std.proofs.lemmas.Bool.Decides.{nat_tests}
 use Rattle.std.proofs.lemmas.List.{get_or-map, get_or_default, get_or_past, get_or-set_other, length-map}
+use Rattle.cod_types.specs.Overwritten.{byte_of}
 use Rattle.cod_types.specs.declared.call.Call.{Call}
 use Rattle.cod_types.specs.declared.call.Caller.{Caller}
-use Rattle.cod_claims.specs.Changes.{Change}
+use Rattle.cod_claims.specs.Changes.{Change, LiesInside}
 use Rattle.cod_claims.specs.declared.claim.Claim.{Claim}
-use Rattle.cod_claims.specs.Claimed.{AreClaims, HasNone, claim_at, claim_of, applied, forgotten, is_of, noted, released, unclaimed, with_claims}
+use Rattle.cod_claims.specs.Claimed.{AreClaims, HasNone, KeepsApplied, claim_at, claim_of, delta_of, applied, forgotten, is_of, noted, released, unclaimed, with_claims}
 
 -- a claim comes from another but for its marks
 pub record IsFrom (was now : Claim) : Type 0 where
@@ -26,6 +28,7 @@ pub record ComesFrom (cs : List (Option Claim)) (j : ℕ) (now : Claim) : Type 0
 pub kept_by : (cs ds : List (Option Claim)) → AreClaims cs → length ds ≡ length cs → ((j : ℕ) (d : Claim) → claim_at ds j ≡ Some d → ComesFrom cs j d) → AreClaims ds
 kept_by cs ds are size from = record {
   blocks = size ∙ are.blocks;
+  inside = λ j d here. let f = from j d here in subst LiesInside (sym f.from.delta) (are.inside j f.was f.here);
   own = λ j d here. let f = from j d here in ap (λ (x : Change). x.part.block) f.from.delta ∙ are.own j f.was f.here;
   marks = λ j d here. let f = from j d here in f.from.marks ∙ are.marks j f.was f.here;
   one_call = λ i j c d first second same.
@@ -41,7 +44,7 @@ pub at_set : (cs : List (Option Claim)) (b : ℕ) (x : Option Claim) (j : ℕ) �
 at_set cs b x j below = (λ other. get_or-set_other cs b j x None other, λ same. get_or-set_at cs b j x None same below)
 
 -- a change at each block
-at_map : (f : Option Claim → Option Claim) → f None ≡ None → (cs : List (Option Claim)) (j : ℕ) → claim_at (map f cs) j ≡ f (claim_at cs j)
+pub at_map : (f : Option Claim → Option Claim) → f None ≡ None → (cs : List (Option Claim)) (j : ℕ) → claim_at (map f cs) j ≡ f (claim_at cs j)
 at_map f none cs j = elim (cases_lt j (length cs)) [
   | inl below ↦ get_or-map f cs j None None below
   | inr past ↦ get_or_past (map f cs) j None (omega (arith, length-map cs f)) ∙ sym (ap f (get_or_past cs j None past) ∙ none)
@@ -51,11 +54,10 @@ at_map f none cs j = elim (cases_lt j (length cs)) [
 abbrev pub KeepsClaim : (Option Claim → Option Claim) → Type 0
 KeepsClaim f = (c : Option Claim) (d : Claim) → f c ≡ Some d → (was : Claim) × (c ≡ Some was) × IsFrom was d
 
-pub kept_by_one : (f : Option Claim → Option Claim) → KeepsClaim f → (cs : List (Option Claim)) (b : ℕ) → AreClaims cs → b < 16 → AreClaims (set cs b (f (claim_at cs b)))
-kept_by_one f keeps cs b are below =
-    let inside : b < length cs = omega (arith, are.blocks) in
-    kept_by cs (set cs b (f (claim_at cs b))) are (length-set cs b (f (claim_at cs b)))
-    (λ j d here. elim (cases_lt j b) [
+pub comes_from_one : (f : Option Claim → Option Claim) → KeepsClaim f → (cs : List (Option Claim)) (b : ℕ) → b < length cs
+    → (j : ℕ) (d : Claim) → claim_at (set cs b (f (claim_at cs b))) j ≡ Some d → ComesFrom cs j d
+comes_from_one f keeps cs b inside j d here =
+    elim (cases_lt j b) [
       | inl before ↦ record { was = d; here = sym ((at_set cs b (f (claim_at cs b)) j inside).0 (omega arith)) ∙ here; from = record { owner = refl; number = refl; delta = refl; marks = refl } }
       | inr from ↦ elim (cases_lt b j) [
         | inl after ↦ record { was = d; here = sym ((at_set cs b (f (claim_at cs b)) j inside).0 (omega arith)) ∙ here; from = record { owner = refl; number = refl; delta = refl; marks = refl } }
@@ -64,7 +66,11 @@ kept_by_one f keeps cs b are below =
             let k = keeps (claim_at cs b) d (sym ((at_set cs b (f (claim_at cs b)) j inside).1 same) ∙ here) in
             record { was = k.0; here = ap (claim_at cs) same ∙ k.1; from = k.2 }
       ]
-    ])
+    ]
+
+pub kept_by_one : (f : Option Claim → Option Claim) → KeepsClaim f → (cs : List (Option Claim)) (b : ℕ) → AreClaims cs → b < 16 → AreClaims (set cs b (f (claim_at cs b)))
+kept_by_one f keeps cs b are below =
+    kept_by cs (set cs b (f (claim_at cs b))) are (length-set cs b (f (claim_at cs b))) (comes_from_one f keeps cs b (omega (arith, are.blocks)))
 
 pub kept_by_each : (f : Option Claim → Option Claim) → f None ≡ None → KeepsClaim f → (cs : List (Option Claim)) → AreClaims cs → AreClaims (map f cs)
 kept_by_each f none keeps cs are =
@@ -84,6 +90,7 @@ none_is_none j c here = let gone : None ≡ Some c = sym (none_at 16 j) ∙ here
 pub unclaimed_are : AreClaims unclaimed
 unclaimed_are = record {
   blocks = refl;
+  inside = λ j c here. absurd (none_is_none j c here);
   own = λ j c here. absurd (none_is_none j c here);
   marks = λ j c here. absurd (none_is_none j c here);
   one_call = λ i j c d first second same. absurd (none_is_none i c first);
@@ -95,18 +102,22 @@ pub applied_keeps : KeepsClaim applied
 applied_keeps None d is = cc
 applied_keeps (Some c) d is = (c, refl, let e : record c { applied = true } ≡ d = cc in subst (λ (x : Claim). IsFrom c x) e (record { owner = refl; number = refl; delta = refl; marks = refl }))
 
-pub noted_keeps : (col : ℕ) → KeepsClaim (noted col)
-noted_keeps col None d is = cc
-noted_keeps col (Some c) d is =
-    (c, refl, let e : record c { noted = set c.noted col true } ≡ d = cc in subst (λ (x : Claim). IsFrom c x) e (record { owner = refl; number = refl; delta = refl; marks = length-set c.noted col true }))
+pub noted_keeps : (col len : ℕ) → KeepsClaim (noted col len)
+noted_keeps col len None d is = cc
+noted_keeps col len (Some c) d is = (
+  c,
+  refl,
+  let e : record c { noted = set c.noted col (Some len) } ≡ d = cc in
+      subst (λ (x : Claim). IsFrom c x) e (record { owner = refl; number = refl; delta = refl; marks = length-set c.noted col (Some len) }),
+)
 
 pub forgotten_keeps : (col : ℕ) → KeepsClaim (forgotten col)
 forgotten_keeps col None d is = cc
 forgotten_keeps col (Some c) d is = (
   c,
   refl,
-  let e : record c { applied = cond (c.delta.part.block == col) false c.applied; noted = set c.noted col false } ≡ d = cc in
-      subst (λ (x : Claim). IsFrom c x) e (record { owner = refl; number = refl; delta = refl; marks = length-set c.noted col false }),
+  let e : record c { applied = cond (c.delta.part.block == col) false c.applied; noted = set c.noted col None } ≡ d = cc in
+      subst (λ (x : Claim). IsFrom c x) e (record { owner = refl; number = refl; delta = refl; marks = length-set c.noted col None }),
 )
 
 released_some : (caller : ℕ) (b : Bool) (c d : Claim) → cond b None (Some c) ≡ Some d → c ≡ d
@@ -171,14 +182,18 @@ claimed_only caller number call change cs below same only = record {
 }
 
 pub claimed_are : (caller : Caller) (number : ℕ) (call : Call) (change : Change) (cs : List (Option Claim)) → change.part.block < 16 → change.call ≡ call
-    → IsOnlyFor caller.0 number call cs → AreClaims cs → AreClaims (set cs change.part.block (Some (claim_of caller number change)))
-claimed_are caller number call change cs inside same only are =
+    → LiesInside change → IsOnlyFor caller.0 number call cs → AreClaims cs → AreClaims (set cs change.part.block (Some (claim_of caller number change)))
+claimed_are caller number call change cs inside same lies only are =
     let below : change.part.block < length cs = omega (arith, are.blocks) in
     let x : Claim = claim_of caller number change in
     let all = claimed_only caller number call change cs below same only in
     let at = claimed_at cs change.part.block x in
     record {
       blocks = length-set cs change.part.block (Some x) ∙ are.blocks;
+      inside = λ j c here. elim (at c j below here) [
+        | inl new ↦ subst (λ (y : Claim). LiesInside y.delta) new.1 lies
+        | inr old ↦ are.inside j c old
+      ];
       own = λ j c here. elim (at c j below here) [
         | inl new ↦ ap (λ (y : Claim). y.delta.part.block) (sym new.1) ∙ sym new.0
         | inr old ↦ are.own j c old
@@ -202,15 +217,16 @@ claimed_are caller number call change cs inside same only are =
       ];
     }
 
-pub claims_are : (caller : Caller) (number : ℕ) (call : Call) (changes : List Change) (cs : List (Option Claim)) → All (λ (x : Change). x.part.block < 16) changes → All (λ (x : Change). x.call ≡ call) changes
+pub claims_are : (caller : Caller) (number : ℕ) (call : Call) (changes : List Change) (cs : List (Option Claim)) → All (λ (x : Change). x.part.block < 16) changes
+    → All (λ (x : Change). x.call ≡ call) changes → All LiesInside changes
     → IsOnlyFor caller.0 number call cs → AreClaims cs → AreClaims (with_claims caller number changes cs)
-claims_are caller number call [] cs inside same only are = are
-claims_are caller number call (x ∷ changes) cs inside same only are =
+claims_are caller number call [] cs inside same lies only are = are
+claims_are caller number call (x ∷ changes) cs inside same lies only are =
     let here : x.part.block < 16 = inside 0 x (omega arith) in
     let mine : x.call ≡ call = same 0 x (omega arith) in
     claims_are caller number call changes (set cs x.part.block (Some (claim_of caller number x)))
-    (λ i d lt. inside (suc i) d (omega arith)) (λ i d lt. same (suc i) d (omega arith))
-    (claimed_only caller number call x cs (omega (arith, are.blocks)) mine only) (claimed_are caller number call x cs here mine only are)
+    (λ i d lt. inside (suc i) d (omega arith)) (λ i d lt. same (suc i) d (omega arith)) (λ i d lt. lies (suc i) d (omega arith))
+    (claimed_only caller number call x cs (omega (arith, are.blocks)) mine only) (claimed_are caller number call x cs here mine (lies 0 x (omega arith)) only are)
 
 -- going over changes
 
@@ -223,3 +239,11 @@ rest_inside all rest x n m is same inside = λ i d lt.
 pub empty_list : {A : Type 0} (xs : List A) → length xs ≡ 0 → xs ≡ []
 empty_list [] none = refl
 empty_list (x ∷ xs) none = absurd (omega arith)
+
+-- what a kept delta adds
+pub keeps_applied : KeepsApplied
+keeps_applied None x = refl
+keeps_applied (Some c) x = by c.applied where
+  by : (b : Bool) → byte_of (cond b (Some (c.delta.part.off, c.delta.bytes)) None) x ≡ cond b (byte_of (delta_of (Some c)) x) 0
+  by true = refl
+  by false = refl

@@ -87,15 +87,25 @@ passes_by : (p : ℕ → Bool) (b : Bool) (a j : ℕ) (rest : Option ℕ) → p 
 passes_by p true a j rest is found later = let same : a ≡ j = cc in ap p (sym same) ∙ is
 passes_by p false a j rest is found later = later found
 
-found_passes : (p : ℕ → Bool) (a n j : ℕ) → find p (range_with_len a n) ≡ Some j → p j ≡ true
+pub found_passes : (p : ℕ → Bool) (a n j : ℕ) → find p (range_with_len a n) ≡ Some j → p j ≡ true
 found_passes p a zero j is = cc
 found_passes p a (suc n) j is = passes_by p (p a) a j (find p (range_with_len (a + 1) n)) refl is (found_passes p (a + 1) n j)
+
+range_by : (b : Bool) (a n j : ℕ) (rest : Option ℕ) → (if b then Some a else rest) ≡ Some j → (rest ≡ Some j → (a + 1 ≤ j) × (j < a + 1 + n))
+    → (a ≤ j) × (j < a + suc n)
+range_by true a n j rest found later = (let same : a ≡ j = cc in (omega (arith, same), omega (arith, same)))
+range_by false a n j rest found later = (let r = later found in (omega (arith, r.0), omega (arith, r.1)))
+
+-- what is found is in the range
+pub found_range : (p : ℕ → Bool) (a n j : ℕ) → find p (range_with_len a n) ≡ Some j → (a ≤ j) × (j < a + n)
+found_range p a zero j is = cc
+found_range p a (suc n) j is = range_by (p a) a n j (find p (range_with_len (a + 1) n)) is (found_range p (a + 1) n j)
 
 others_some : (caller : ℕ) (c : Option Claim) → is_others caller c ≡ true → IsSome c
 others_some caller None is = cc
 others_some caller (Some c) is = refl
 
-second_true : (a b : Bool) → (a && b) ≡ true → b ≡ true
+pub second_true : (a b : Bool) → (a && b) ≡ true → b ≡ true
 second_true true b is = is
 second_true false b is = cc
 

@@ -14,7 +14,8 @@ use Rattle.cod_kernel.proofs.SumLaws.{added_at, length-added}
 use Rattle.cod_claims.specs.Changes.{Change, MakesDelta, joined, new_in}
 
 -- one piece more fits in
-pub joined_fits : (cs : List Change) (i : ℕ) (d : Change) (piece : List ℕ) (at size : ℕ) → i < length cs → d ≡ get_or cs i d → piece ≡ d.bytes → at ≡ length (joined (take i cs)) → size ≡ length (joined cs)
+pub joined_fits : (cs : List Change) (i : ℕ) (d : Change) (piece : List ℕ) (at size : ℕ) → i < length cs → d ≡ get_or cs i d → piece ≡ d.bytes → at ≡ length (joined (take i cs))
+    → size ≡ length (joined cs)
     → at + length piece ≤ size
 joined_fits cs i d piece at size below is by from all =
     let most = length-flat_map-take (λ (c : Change). c.bytes) cs i d below in

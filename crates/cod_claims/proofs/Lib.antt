@@ -3,3 +3,4 @@ pub mod Claiming
 pub mod Preparing
 pub mod Joining
 pub mod Opening
+pub mod Leaving

@@ -8,7 +8,7 @@ use Rattle.cod_types.specs.declared.call.Call.{Call}
 use Rattle.cod_types.specs.declared.call.Caller.{Caller}
 use Rattle.cod_claims.specs.Changes.{Change}
 use Rattle.cod_claims.specs.declared.claim.Claim.{Claim}
-use Rattle.cod_claims.specs.Claimed.{ClaimsLeaveOthers, ClaimsOpen, OpensCall, OpensNone, ReleasesOne, claim_at, claim_of, is_of, open_call, with_claims, without_claims}
+use Rattle.cod_claims.specs.Claimed.{ClaimsLeaveOthers, ClaimsOpen, OpensByClaim, OpensCall, OpensNone, IsOpenBy, ReleasesOne, claim_at, claim_of, is_of, open_call, with_claims, without_claims}
 use Rattle.cod_claims.proofs.Claiming.{IsOnlyFor, at_set, claimed_only, only_none}
 
 pub opens_none : OpensNone
@@ -50,6 +50,33 @@ opens_call cs j c are here =
     let one = are.one_call o.at j o.claim c o.here here o.owner in
     o.opened ∙ ap (λ (n : ℕ). Some (n, o.claim.delta.call)) one.0 ∙ ap (λ (k : Call). Some (c.number, k)) one.1
 
+-- the converse
+
+open_by_next : (caller number : ℕ) (call : Call) (c : Option Claim) (cs : List (Option Claim)) → IsOpenBy caller number call cs → IsOpenBy caller number call (c ∷ cs)
+open_by_next caller number call c cs o =
+    record { block = suc o.block; claim = o.claim; there = o.there; owner = o.owner; number_is = o.number_is; call_is = o.call_is }
+
+open_by_either : (caller number : ℕ) (call : Call) (c : Claim) (cs : List (Option Claim)) (b : Bool) → (c.owner.0 == caller) ≡ b
+    → cond b (Some (c.number, c.delta.call)) (open_call caller cs) ≡ Some (number, call) → (open_call caller cs ≡ Some (number, call) → IsOpenBy caller number call cs)
+    → IsOpenBy caller number call (Some c ∷ cs)
+open_by_either caller number call c cs true is found later =
+    let mine : c.owner.0 ≡ caller = grind (arith, nat_tests, is) in
+    let e : (c.number, c.delta.call) ≡ (number, call) = cc in
+    record {
+      block = 0;
+      claim = c;
+      there = refl;
+      owner = mine;
+      number_is = ap (λ (p : ℕ × Call). p.0) e;
+      call_is = ap (λ (p : ℕ × Call). p.1) e;
+    }
+open_by_either caller number call c cs false is found later = open_by_next caller number call (Some c) cs (later found)
+
+pub opens_by_claim : OpensByClaim
+opens_by_claim [] caller number call is = cc
+opens_by_claim (None ∷ cs) caller number call is = open_by_next caller number call None cs (opens_by_claim cs caller number call is)
+opens_by_claim (Some c ∷ cs) caller number call is = open_by_either caller number call c cs (c.owner.0 == caller) refl is (opens_by_claim cs caller number call)
+
 -- claims that are made
 
 -- the caller has a claim
@@ -59,7 +86,8 @@ pub record HasClaim (caller : ℕ) (cs : List (Option Claim)) : Type 0 where
   pub here : claim_at cs at ≡ Some claim
   pub owner : claim.owner.0 ≡ caller
 
-has_made : (caller : Caller) (number : ℕ) (change : Change) (cs : List (Option Claim)) → change.part.block < length cs → HasClaim caller.0 (set cs change.part.block (Some (claim_of caller number change)))
+has_made : (caller : Caller) (number : ℕ) (change : Change) (cs : List (Option Claim)) → change.part.block < length cs
+    → HasClaim caller.0 (set cs change.part.block (Some (claim_of caller number change)))
 has_made caller number change cs below =
     record { at = change.part.block; claim = claim_of caller number change; here = (at_set cs change.part.block (Some (claim_of caller number change)) change.part.block below).1 refl; owner = refl }
 
@@ -71,7 +99,8 @@ has_made_all caller number (x ∷ changes) cs inside has =
     let size : length next ≡ length cs = length-set cs x.part.block (Some (claim_of caller number x)) in
     has_made_all caller number changes next (λ i d lt. let at = inside (suc i) d (omega arith) in omega (arith, size, at)) (has_made caller number x cs (inside 0 x (omega arith)))
 
-only_made : (caller : Caller) (number : ℕ) (call : Call) (changes : List Change) (cs : List (Option Claim)) → All (λ (x : Change). x.part.block < length cs) changes → All (λ (x : Change). x.call ≡ call) changes
+only_made : (caller : Caller) (number : ℕ) (call : Call) (changes : List Change) (cs : List (Option Claim)) → All (λ (x : Change). x.part.block < length cs) changes
+    → All (λ (x : Change). x.call ≡ call) changes
     → IsOnlyFor caller.0 number call cs → IsOnlyFor caller.0 number call (with_claims caller number changes cs)
 only_made caller number call [] cs inside same only = only
 only_made caller number call (x ∷ changes) cs inside same only =
@@ -92,7 +121,8 @@ claims_open caller number call change changes cs are none inside same =
     let size = length-set cs change.part.block (Some (claim_of caller number change)) in
     open_for caller.0 number call (with_claims caller number (change ∷ changes) cs)
     (only_made caller number call (change ∷ changes) cs below same (only_none caller.0 number call cs none))
-    (has_made_all caller number changes (set cs change.part.block (Some (claim_of caller number change))) (λ i d lt. let at = below (suc i) d (omega arith) in omega (arith, size, at)) (has_made caller number change cs (below 0 change (omega arith))))
+    (has_made_all caller number changes (set cs change.part.block (Some (claim_of caller number change))) (λ i d lt. let at = below (suc i) d (omega arith) in
+    omega (arith, size, at)) (has_made caller number change cs (below 0 change (omega arith))))
 
 -- what others have open
 

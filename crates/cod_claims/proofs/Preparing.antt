@@ -1,5 +1,6 @@
 -- What a call's changes are before it begins.
-use Rattle.std.proofs.Common.{◌≡◌, ℕ, zero, suc, ◌+◌, ◌-◌, ◌*◌, ◌<◌, ◌≤◌, Bool, true, false, nat_lt, length, map, List, [], All, Option, Some, None, IsSome, is_some, not, ◌||◌, ◌==◌, if◌then◌else◌, get_or, refl, arith, inl, inr}
+use Rattle.std.proofs.Common.{◌≡◌, ℕ, zero, suc, ◌+◌, ◌-◌, ◌*◌, ◌<◌, ◌≤◌, Bool, true, false, nat_lt, length, map, List, [], All, Option, Some, None, IsSome, is_some, if◌then◌else◌}
+use Rattle.std.proofs.Common.{get_or, refl, arith, inl, inr}
 use Rattle.std.proofs.lemmas.List.{length-replicate}
 use Rattle.std.specs.Option.{unwrap_or}
 use Rattle.std.proofs.lemmas.Bool.{cases_lt}
@@ -7,15 +8,15 @@ use Rattle.std.proofs.lemmas.Bool.Decides.{nat_tests}
 use Rattle.std.proofs.lemmas.List.Elements.{All-map, All-cons}
 use Rattle.cod_types.specs.Limits.{Shape, IsWithin, segment_length}
 use Rattle.cod_types.specs.Plain.{refusal}
+use Rattle.cod_types.proofs.Refusals.{writes_update, swaps_update}
 use Rattle.cod_types.specs.declared.call.Call.{Call}
 use Rattle.cod_types.specs.declared.call.Call.TheVariants.{Read, Write, Swap, Put, Merge, Tick, Rebuild, Upgrade, Drain}
 use Rattle.cod_types.specs.declared.call.Reply.{Reply}
-use Rattle.cod_types.specs.declared.call.Reply.TheVariants.{Range, Long}
 use Rattle.cod_layout.specs.declared.parts.Part.{Part}
 use Rattle.cod_layout.specs.Parts.{length_in, part_in, parts_among, parts_of, place_of}
 use Rattle.cod_layout.proofs.Splitting.{among_some, among_none, parts_split}
-use Rattle.cod_claims.specs.Changes.{Change, blank, made, new_bytes}
-use Rattle.cod_claims.specs.Slips.{AreChanges, AreWhole, IsPaper, LiesInside, changes_for, prepared}
+use Rattle.cod_claims.specs.Changes.{Change, LiesInside, blank, made, new_bytes}
+use Rattle.cod_claims.specs.Slips.{AreChanges, AreWhole, IsPaper, changes_for, prepared}
 
 -- a paper that has its call and its changes
 pub paper_changes : (o : Option Call) (p : Option (List Change)) → IsPaper o p → IsSome o → IsSome p → (k : Call) × ((o ≡ Some k) × AreChanges k (unwrap_or p []))
@@ -47,7 +48,8 @@ parts_fit block off len j (suc n) =
       | inr none ↦ rw (among_none block off len j n none) rest
     ]
 
-pub blank_are : (k : Call) (blocks block off : ℕ) → blocks ≤ 16 → off + length (new_bytes k) ≤ blocks * block → AreChanges k (map (blank k block off) (parts_of blocks block off (length (new_bytes k))))
+pub blank_are : (k : Call) (blocks block off : ℕ) → blocks ≤ 16 → off + length (new_bytes k) ≤ blocks * block
+    → AreChanges k (map (blank k block off) (parts_of blocks block off (length (new_bytes k))))
 blank_are k blocks block off most fits =
     let parts = parts_of blocks block off (length (new_bytes k)) in
     let split = parts_split blocks block off (length (new_bytes k)) fits in
@@ -59,35 +61,15 @@ blank_are k blocks block off most fits =
 
 -- a call that isn't refused
 
-either_false : (a b : Bool) → (a || b) ≡ false → (a ≡ false) × (b ≡ false)
-either_false true b is = cc
-either_false false b is = (refl, is)
+write_fits : (g : Shape) (off : ℕ) (bytes : List ℕ) → refusal g (Write off bytes) ≡ None → off + length bytes ≤ g.k * g.block
+write_fits g off bytes is = (writes_update g off bytes is).inside
 
-not_false : (b : Bool) → not b ≡ false → b ≡ true
-not_false true is = refl
-not_false false is = cc
+swap_fits : (g : Shape) (off : ℕ) (old new : List ℕ) → refusal g (Swap off old new) ≡ None → off + length new ≤ g.k * g.block
+swap_fits g off old new is = (swaps_update g off old new is).update.inside
 
-unrefused : (b : Bool) (r : Reply) (rest : Option Reply) → is_some (if b then Some r else rest) ≡ false → (b ≡ false) × (is_some rest ≡ false)
-unrefused true r rest is = cc
-unrefused false r rest is = (refl, is)
-
-at_most : (m n : ℕ) → nat_lt m n ≡ false → n ≤ m
-at_most m n is = grind (arith, nat_tests, is)
-
-same_number : (m n : ℕ) → (m == n) ≡ true → m ≡ n
-same_number m n is = grind (arith, nat_tests, is)
-
-write_fits : (g : Shape) (off : ℕ) (bytes : List ℕ) → is_some (refusal g (Write off bytes)) ≡ false → off + length bytes ≤ g.k * g.block
-write_fits g off bytes is = at_most (segment_length g) (off + length bytes) (unrefused (nat_lt (segment_length g) (off + length bytes)) Range _ is).0
-
-swap_fits : (g : Shape) (off : ℕ) (old new : List ℕ) → is_some (refusal g (Swap off old new)) ≡ false → off + length new ≤ g.k * g.block
-swap_fits g off old new is =
-    let first = unrefused (nat_lt (segment_length g) (off + length old)) Range _ is in
-    let second = unrefused (nat_lt g.update (length new) || not (length new == length old)) Long None first.1 in
-    let both = either_false (nat_lt g.update (length new)) (not (length new == length old)) second.0 in
-    let range : off + length old ≤ segment_length g = at_most (segment_length g) (off + length old) first.0 in
-    let same : length new ≡ length old = same_number (length new) (length old) (not_false (length new == length old) both.1) in
-    omega (arith, range, same)
+not_some : (o : Option Reply) → is_some o ≡ false → o ≡ None
+not_some None is = refl
+not_some (Some r) is = cc
 
 paper_unless : (k : Call) (b : Bool) (p : Option (List Change)) → (b ≡ false → IsPaper (Some k) p) → IsPaper (Some k) (if b then None else p)
 paper_unless k true p else_is = tt
@@ -97,9 +79,11 @@ paper_unless k false p else_is = else_is refl
 pub prepared_is : (g : Shape) (k : Call) → g.k ≤ 16 → IsPaper (Some k) (if is_some (refusal g k) then None else changes_for g k)
 prepared_is g (Read off len) most = paper_unless (Read off len) (is_some (refusal g (Read off len))) None (λ is. tt)
 prepared_is g (Write off bytes) most =
-    paper_unless (Write off bytes) (is_some (refusal g (Write off bytes))) (changes_for g (Write off bytes)) (λ is. blank_are (Write off bytes) g.k g.block off most (write_fits g off bytes is))
+    paper_unless (Write off bytes) (is_some (refusal g (Write off bytes))) (changes_for g (Write off bytes))
+    (λ is. blank_are (Write off bytes) g.k g.block off most (write_fits g off bytes (not_some (refusal g (Write off bytes)) is)))
 prepared_is g (Swap off old new) most =
-    paper_unless (Swap off old new) (is_some (refusal g (Swap off old new))) (changes_for g (Swap off old new)) (λ is. blank_are (Swap off old new) g.k g.block off most (swap_fits g off old new is))
+    paper_unless (Swap off old new) (is_some (refusal g (Swap off old new))) (changes_for g (Swap off old new))
+    (λ is. blank_are (Swap off old new) g.k g.block off most (swap_fits g off old new (not_some (refusal g (Swap off old new)) is)))
 prepared_is g (Put bytes) most = paper_unless (Put bytes) (is_some (refusal g (Put bytes))) None (λ is. tt)
 prepared_is g Merge most = tt
 prepared_is g Tick most = tt

@@ -42,6 +42,10 @@ pub record IsDelta (old new delta : List ℕ) : Type 0 where
   pub size : length delta ≡ length old
   pub places : (i : ℕ) → slice_index delta i ≡ bit_xor (slice_index old i) (slice_index new i)
 
+-- the part of a change lies in its call's new bytes
+abbrev pub LiesInside : Change → Type 0
+LiesInside c = c.at + c.part.len ≤ length (new_bytes c.call)
+
 -- a change that is made is the delta between the bytes that it had and those that its call brings
 abbrev pub MakesDelta : Type 0
-MakesDelta = (c : Change) → length c.bytes ≡ c.part.len → c.at + c.part.len ≤ length (new_bytes c.call) → IsDelta c.bytes (new_in c) (made c).bytes
+MakesDelta = (c : Change) → length c.bytes ≡ c.part.len → LiesInside c → IsDelta c.bytes (new_in c) (made c).bytes

@@ -1,3 +1,4 @@
 pub mod Changes
 pub mod Slips
 pub mod Claimed
+pub mod Left

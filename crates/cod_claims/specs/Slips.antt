@@ -1,5 +1,6 @@
 -- The memory of a call.
-use Rattle.std.specs.Prelude.{◌≡◌, ℕ, ◌+◌, ◌*◌, ◌≤◌, ◌<◌, Bool, true, false, if◌then◌else◌, Option, Some, None, is_some, unwrap_or, List, [], length, map, replicate, slice_set, slice_index_or, All}
+use Rattle.std.specs.Prelude.{◌≡◌, ℕ, ◌+◌, ◌*◌, ◌≤◌, ◌<◌, Bool, true, false, if◌then◌else◌, Option, Some, None, is_some, unwrap_or, List, [], length, map}
+use Rattle.std.specs.Prelude.{replicate, slice_set, slice_index_or, All}
 use Rattle.cod_types.specs.Limits.{Shape}
 use Rattle.cod_types.specs.Plain.{refusal}
 use Rattle.cod_types.specs.declared.call.Call.{Call}
@@ -7,7 +8,7 @@ use Rattle.cod_types.specs.declared.call.Call.TheVariants.{Read, Write, Swap, Re
 use Rattle.cod_types.specs.declared.call.Reply.{Reply}
 use Rattle.cod_types.specs.declared.reasons.Reason.{Reason}
 use Rattle.cod_layout.specs.Parts.{parts_of}
-use Rattle.cod_claims.specs.Changes.{Change, blank, joined, made, new_bytes}
+use Rattle.cod_claims.specs.Changes.{Change, LiesInside, blank, joined, made}
 
 -- What a call has at hand: itself, until it goes into its entry; how many links; the changes of its parts, until they are
 -- claimed, and whether they are made; two buffers and two lists of reasons, until they are taken; and its reply.
@@ -76,10 +77,6 @@ AreWhole cs = All (λ c. length c.bytes ≡ c.part.len) cs
 -- with all changes made
 abbrev pub with_made : Paper → Paper
 with_made s = record s { changes = Some (map made (changes_of s)); are_made = true }
-
--- the part of a change lies in its call's new bytes
-abbrev pub LiesInside : Change → Type 0
-LiesInside c = c.at + c.part.len ≤ length (new_bytes c.call)
 
 -- The changes are those of this call, each in one of 16 blocks, and each part lies in the call's new bytes.
 pub record AreChanges (call : Call) (cs : List Change) : Type 0 where

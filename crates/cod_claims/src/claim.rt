@@ -2,7 +2,7 @@
 use crate::delta::Delta;
 use cod_types::Caller;
 
-/// The right of one call to update a block, with the delta of its part there and marks on where it was noted already.
+/// The right of one call to update a block, with the delta of its part there and where it was noted already.
 #[derive(Drop)]
 pub struct Claim {
     pub owner: Caller,
@@ -10,6 +10,6 @@ pub struct Claim {
     pub delta: Delta,
     /// Whether the delta was added to the block in place.
     pub applied: bool,
-    /// Which parity columns have a record of the delta.
-    pub noted: [bool; 16],
+    /// How long the record of the delta is on each parity column that has one.
+    pub noted: [Option<u32>; 16],
 }

@@ -1,7 +1,11 @@
 //! Which call may update which block.
-ghost use Rattle.std.specs.Prelude.{◌≡◌, ◌↔◌, ◌<◌, IsTrue, ℕ, List, length, None, Some, true, false, MatchOption, IfNone, IsSome, All};
+ghost use Rattle.std.specs.Prelude.{◌≡◌, ◌↔◌, ◌<◌, IsTrue, ℕ, List, length, slice_index, None, Some, true, false, MatchOption, IfNone, IfSome, IsSome, All};
+ghost use Rattle.cod_types.specs.Overwritten.{byte_at, byte_of};
+ghost use Rattle.cod_claims.specs.Changes.{LiesInside};
 ghost use Rattle.cod_claims.specs.Slips.{changes_of};
-ghost use Rattle.cod_claims.specs.Claimed.{AreClaims, HasNone, applied, noted, claim_at, claim_of, delta_of, first_holder, holder, is_applied, is_noted, is_of, is_others, is_wanted, kept_of, released, forgotten, unclaimed, with_applied, with_claims, with_note, without_claims, without_marks};
+ghost use Rattle.cod_claims.specs.Claimed.{AreClaims, HasNone, brought_by, claim_at, claim_of, delta_of, first_holder, holder, kept_of};
+ghost use Rattle.cod_claims.specs.Claimed.{applied, forgotten, is_applied, is_noted, is_of, is_others, is_wanted, noted, noted_length, released};
+ghost use Rattle.cod_claims.specs.Claimed.{unclaimed, with_applied, with_claims, with_note, without_claims, without_marks};
 
 use crate::Slip;
 use crate::claim::Claim;
@@ -97,15 +101,29 @@ impl Claims {
 
     /// The place in the block of its claim's delta, and the delta. None exactly where the block has no claim.
     pub fn delta(&self, block: u8) -> Option<(u32, &[u8])>
-        ensures { MatchOption result (delta_of (claim_at self.now block) ≡ None) (λ d. delta_of (claim_at self.now block) ≡ Some (d.0, d.1.now)) }
+        ensures delta { MatchOption result (delta_of (claim_at self.now block) ≡ None) (λ d. delta_of (claim_at self.now block) ≡ Some (d.0, d.1.now)) }
+        ensures bytes { IfSome result (λ d. (i : ℕ) → slice_index d.1.now i < 256) }
     {
         let claim = self.claim_at(block)?;
         Some((claim.delta.part().off, claim.delta.bytes()))
     }
 
-    /// The same where the delta was applied in place. None exactly where the block has no claim, or one that wasn't applied.
+    /// The new bytes that its claim's call brings to its part of the block. None exactly where the block has no claim.
+    pub fn brings(&self, block: u8) -> Option<&[u8]>
+        ensures new { MatchOption result (brought_by (claim_at self.now block) ≡ None) (λ b. brought_by (claim_at self.now block) ≡ Some b.now) }
+        ensures bytes { IfSome result (λ b. (i : ℕ) → slice_index b.now i < 256) }
+    {
+        let claim = self.claim_at(block)?;
+        Some(claim.delta.brings())
+    }
+
+    /// The place in the block of its claim's delta, and the delta, where it was applied in place. None exactly where the
+    /// block has no claim, or one that wasn't applied.
     pub fn kept(&self, block: u8) -> Option<(u32, &[u8])>
-        ensures { MatchOption result (kept_of (claim_at self.now block) ≡ None) (λ d. kept_of (claim_at self.now block) ≡ Some (d.0, d.1.now)) }
+        ensures kept { MatchOption result (kept_of (claim_at self.now block) ≡ None) (λ d. kept_of (claim_at self.now block) ≡ Some (d.0, d.1.now)) }
+        ensures bytes { IfSome result (λ d. (i : ℕ) → slice_index d.1.now i < 256) }
+        ensures none { IfNone result ((x : ℕ) → byte_of (kept_of (claim_at self.now block)) x ≡ 0) }
+        ensures some { IfSome result (λ d. (x : ℕ) → byte_of (kept_of (claim_at self.now block)) x ≡ byte_at x 0 d.0 d.1.now) }
     {
         let claim = self.claim_at(block)?;
         if claim.applied {
@@ -130,9 +148,17 @@ impl Claims {
         requires { col < 16 }
         ensures { result ≡ is_noted col (claim_at self.now block) }
     {
+        self.noted_length(block, col).is_some()
+    }
+
+    /// How long the column's record of the block's delta is, where the column has one.
+    pub fn noted_length(&self, block: u8, col: u8) -> Option<u32>
+        requires { col < 16 }
+        ensures { result ≡ noted_length col (claim_at self.now block) }
+    {
         match self.claim_at(block) {
             Some(claim) => claim.noted[col as usize],
-            None => false,
+            None => None,
         }
     }
 
@@ -144,13 +170,13 @@ impl Claims {
         apply_one(&mut self.slots[block as usize]);
     }
 
-    /// The column has a record of the block's delta.
-    pub fn mark_noted(&mut self, block: u8, col: u8)
+    /// The column has a record of the block's delta, `len` bytes long.
+    pub fn note(&mut self, block: u8, col: u8, len: u32)
         requires block { IsSome (claim_at self.old block) }
         requires col { col < 16 }
-        ensures { self.new ≡ with_note block col self.old }
+        ensures { self.new ≡ with_note block col len self.old }
     {
-        note_one(&mut self.slots[block as usize], col);
+        note_one(&mut self.slots[block as usize], col, len);
     }
 
     /// Ends all marks on a column: that it has a record, and for a data column that its block's delta was applied.
@@ -170,7 +196,8 @@ impl Claims {
 
     /// The holder of the block where that is another caller.
     fn other(&self, block: u8, caller: Caller) -> Option<Held>
-        ensures { MatchOption result (is_others caller.0 (claim_at self.now block) ≡ false) (λ h. (is_others caller.0 (claim_at self.now block) ≡ true) × (holder (claim_at self.now block) ≡ Some h)) }
+        ensures none { IfNone result (is_others caller.0 (claim_at self.now block) ≡ false) }
+        ensures some { IfSome result (λ h. (is_others caller.0 (claim_at self.now block) ≡ true) × (holder (claim_at self.now block) ≡ Some h)) }
     {
         let claim = self.claim_at(block)?;
         if claim.owner.0 == caller.0 {
@@ -183,7 +210,8 @@ impl Claims {
     }
 
     fn claim_at(&self, block: u8) -> Option<&Claim>
-        ensures { MatchOption result (claim_at self.now block ≡ None) (λ c. claim_at self.now block ≡ Some c.now) }
+        ensures at { MatchOption result (claim_at self.now block ≡ None) (λ c. claim_at self.now block ≡ Some c.now) }
+        ensures inside { IfSome result (λ c. LiesInside c.now.delta) }
     {
         if block < 16 {
             self.slots[block as usize].as_ref()
@@ -220,7 +248,7 @@ fn claim_one(slot: &mut Option<Claim>, caller: Caller, number: u32, delta: Delta
         number,
         delta,
         applied: false,
-        noted: [false; 16],
+        noted: [None; 16],
     });
 }
 
@@ -232,12 +260,12 @@ fn apply_one(slot: &mut Option<Claim>)
     }
 }
 
-fn note_one(slot: &mut Option<Claim>, col: u8)
+fn note_one(slot: &mut Option<Claim>, col: u8, len: u32)
     requires { col < 16 }
-    ensures { slot.new ≡ noted col slot.old }
+    ensures { slot.new ≡ noted col len slot.old }
 {
     if let Some(claim) = slot {
-        claim.noted[col as usize] = true;
+        claim.noted[col as usize] = Some(len);
     }
 }
 
@@ -255,7 +283,7 @@ fn forget_one(slot: &mut Option<Claim>, col: u8)
     ensures { slot.new ≡ forgotten col slot.old }
 {
     if let Some(claim) = slot {
-        claim.noted[col as usize] = false;
+        claim.noted[col as usize] = None;
         if claim.delta.part().block == col {
             claim.applied = false;
         }

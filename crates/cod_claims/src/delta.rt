@@ -1,7 +1,8 @@
 //! The delta of one part of an update.
-ghost use Rattle.std.specs.Prelude.{◌≡◌, ◌+◌, ◌*◌, ◌≤◌, ◌<◌, ℕ, [], length, IfOk, replicate, map, All};
+ghost use Rattle.std.specs.Prelude.{◌≡◌, ◌+◌, ◌*◌, ◌≤◌, ◌<◌, ℕ, [], length, slice_index, IfOk, replicate, map, All};
 ghost use Rattle.cod_types.specs.Limits.{segment_length};
-ghost use Rattle.cod_claims.specs.Changes.{blank, made, new_bytes};
+ghost use Rattle.cod_types.specs.Plain.{bytes_at};
+ghost use Rattle.cod_claims.specs.Changes.{LiesInside, blank, made, new_bytes, new_in};
 ghost use Rattle.cod_layout.specs.Parts.{parts_of};
 ghost use Rattle.std.specs.Arc.{arc_value};
 
@@ -60,9 +61,19 @@ impl Delta {
 
     /// Its bytes, to be read.
     pub fn bytes(&self) -> &[u8]
-        ensures { result.now ≡ self.now.bytes }
+        ensures same { result.now ≡ self.now.bytes }
+        ensures bytes { (i : ℕ) → slice_index self.now.bytes i < 256 }
     {
-        self.bytes.as_slice()
+        as_bytes(self.bytes.as_slice())
+    }
+
+    /// The new bytes that its call brings to its part.
+    pub fn brings(&self) -> &[u8]
+        requires { LiesInside self.now }
+        ensures same { result.now ≡ new_in self.now }
+        ensures bytes { (i : ℕ) → slice_index (new_in self.now) i < 256 }
+    {
+        as_bytes(part_of(&self.call, self.at, self.part.len))
     }
 
     /// Takes its bytes out, to be filled.
@@ -84,13 +95,30 @@ impl Delta {
     /// Adds the call's new bytes to the old ones that it holds.
     pub fn make(&mut self)
         requires whole { length self.old.bytes ≡ self.old.part.len }
-        requires inside { self.old.at + self.old.part.len ≤ length (new_bytes self.old.call) }
+        requires inside { LiesInside self.old }
         ensures { self.new ≡ made self.old }
     {
-        let new = brings(&self.call);
-        let at = self.at as usize;
-        add(&mut self.bytes, &new[at..at + self.part.len as usize]);
+        let new = part_of(&self.call, self.at, self.part.len);
+        add(&mut self.bytes, new);
     }
+}
+
+/// The same bytes, each of which is known to be below 256.
+fn as_bytes(items: &[u8]) -> &[u8]
+    ensures same { result.now ≡ items.now }
+    ensures bytes { (i : ℕ) → slice_index items.now i < 256 }
+{
+    items
+}
+
+/// A part of the bytes that a call brings to its range.
+fn part_of(call: &Call, at: u64, len: u32) -> &[u8]
+    requires { at + len ≤ length (new_bytes call.now) }
+    ensures { result.now ≡ bytes_at (new_bytes call.now) at len }
+{
+    let at = at as usize;
+    let new = brings(call);
+    &new[at..at + len as usize]
 }
 
 /// The bytes that a call brings to its range.

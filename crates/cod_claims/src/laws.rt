@@ -1,12 +1,18 @@
 //! What claims mean for the calls of their owners. These functions do nothing: their clauses are laws.
 ghost use Rattle.cod_claims.specs.Changes.{MakesDelta};
 ghost use Rattle.cod_claims.specs.Slips.{JoinsRange};
-ghost use Rattle.cod_claims.specs.Claimed.{ClaimsLeaveOthers, ClaimsOpen, FreeOfOthers, OpensCall, OpensNone, ReleasesOne};
+ghost use Rattle.cod_claims.specs.Claimed.{ClaimsLeaveOthers, ClaimsOpen, FreeOfOthers, KeepsApplied, OpensByClaim, OpensCall, OpensNone, ReleasesOne};
+ghost use Rattle.cod_claims.specs.Left.{ClaimsLeave};
 
 /// All claims of a caller are for one call, which is the one that the caller has open.
 #[tactic(auto, using(crate::proofs::Opening::opens_call))]
 pub fn opens_call()
     ensures { OpensCall }
+{}
+
+/// The call that a caller has open is that of a claim of its own.
+pub fn opens_by_claim()
+    ensures { OpensByClaim }
 {}
 
 /// A caller without a claim has no call open.
@@ -24,6 +30,16 @@ pub fn claims_open()
 #[tactic(auto, using(crate::proofs::Opening::claims_leave_others))]
 pub fn claims_leave_others()
     ensures { ClaimsLeaveOthers }
+{}
+
+/// What claims for the parts of a range leave at each block.
+pub fn claims_leave()
+    ensures { ClaimsLeave }
+{}
+
+/// A claim's kept delta is its delta, where that was applied, and else adds nothing.
+pub fn keeps_applied()
+    ensures { KeepsApplied }
 {}
 
 /// A caller that is released has nothing open, and what others have open stays.

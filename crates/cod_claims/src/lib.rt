@@ -5,11 +5,9 @@ mod claim;
 mod claims;
 mod delta;
 pub mod laws;
-mod refusing;
 mod slip;
 
 pub use claims::{Claims, Held};
-pub use refusing::refusal;
 pub use slip::Slip;
 
 #[cfg(test)]

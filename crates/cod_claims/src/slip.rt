@@ -1,16 +1,17 @@
 //! The memory of a call.
-ghost use Rattle.std.specs.Prelude.{◌≡◌, ◌+◌, ◌-◌, ◌≤◌, ◌<◌, ℕ, List, [], All, map, None, Some, IsSome, IfOk, IfSome, MatchOption, true, false, is_some, if◌then◌else◌, replicate, slice_set, length};
+ghost use Rattle.std.specs.Prelude.{◌≡◌, ◌+◌, ◌-◌, ◌≤◌, ◌<◌, ℕ, List, [], All, map, None, Some, IsSome, IfOk, IfSome, MatchOption, true, false, is_some};
+ghost use Rattle.std.specs.Prelude.{if◌then◌else◌, replicate, slice_set, length};
 ghost use Rattle.std.specs.Option.{option_map};
 ghost use Rattle.cod_types.specs.Plain.{refusal};
 ghost use Rattle.cod_types.specs.Overwritten.{overwritten};
-ghost use Rattle.cod_claims.specs.Changes.{Change, joined, blank, made};
-ghost use Rattle.cod_claims.specs.Slips.{AreWhole, IsPaper, LiesInside, buffers_for, change_at, changes_for, changes_of, links_for, prepared, reasons_for, with_bytes, with_made};
+ghost use Rattle.cod_claims.specs.Changes.{Change, LiesInside, joined, blank, made};
+ghost use Rattle.cod_claims.specs.Slips.{AreWhole, IsPaper, buffers_for, change_at, changes_for, changes_of, links_for, prepared, reasons_for};
+ghost use Rattle.cod_claims.specs.Slips.{with_bytes, with_made};
 
 use crate::delta::{Delta, blank_deltas};
-use crate::refusing::refusal;
 use cod_chronicle::Link;
 use cod_layout::Part;
-use cod_types::{Bytes, Call, Geometry, OutOfMemory, Reasons, Reply};
+use cod_types::{Bytes, Call, Geometry, OutOfMemory, Reasons, Reply, refusal};
 use std::alloc::Global;
 use std::marker::Model;
 
@@ -35,7 +36,15 @@ impl Model for Slip {
 
     ghost Value = { Paper };
 
-    ghost view = { λ s. record { call = s.call; links = length s.links.items; changes = option_map (λ v. v.items) s.deltas; are_made = s.are_made; buffers = s.buffers; reasons = s.reasons; reply = s.reply } };
+    ghost view = { λ s. record {
+      call = s.call;
+      links = length s.links.items;
+      changes = option_map (λ v. v.items) s.deltas;
+      are_made = s.are_made;
+      buffers = s.buffers;
+      reasons = s.reasons;
+      reply = s.reply;
+    } };
 
     ghost invariant = { λ s. IsPaper s.call (option_map (λ v. v.items) s.deltas) };
 }
@@ -199,7 +208,7 @@ impl Slip {
     pub fn take_found(&mut self) -> (Bytes, Bytes)
         requires buffers { IsSome self.old.buffers }
         requires early { self.old.are_made ≡ false }
-        requires fits { IfSome self.old.buffers (λ bs. (length bs.0 ≡ length (joined (changes_of self.old))) × (length bs.1 ≡ length (joined (changes_of self.old)))) }
+        requires fits { let most = length (joined (changes_of self.old)) in IfSome self.old.buffers (λ bs. (length bs.0 ≡ most) × (length bs.1 ≡ most)) }
         ensures found { (result.0 ≡ joined (changes_of self.old)) × (result.1 ≡ joined (changes_of self.old)) }
         ensures rest { self.new ≡ record self.old { buffers = None } }
     {
@@ -243,6 +252,14 @@ impl Slip {
         ensures { MatchOption result (self.now.reply ≡ None) (λ r. self.now.reply ≡ Some r.now) }
     {
         self.reply.as_ref()
+    }
+
+    /// Takes the reply out, if the call was answered.
+    pub fn take_reply(&mut self) -> Option<Reply>
+        ensures reply { result ≡ self.old.reply }
+        ensures rest { self.new ≡ record self.old { reply = None } }
+    {
+        self.reply.take()
     }
 }
 

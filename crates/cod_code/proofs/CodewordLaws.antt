@@ -1,5 +1,6 @@
 -- The laws of the code.
-use Rattle.std.proofs.Common.{◌≡◌, ◌≢◌, ℕ, zero, suc, ◌+◌, ◌<◌, ◌≤◌, Bool, true, false, cond, refl, sym, ap, ◌∙◌, subst, arith, List, [], ◌∷◌, map, length, get_or, take, slice_range, nat_lt, ◌-◌, bit_xor, replicate, ⊎_elim, inl, inr}
+use Rattle.std.proofs.Common.{◌≡◌, ◌≢◌, ℕ, zero, suc, ◌+◌, ◌<◌, ◌≤◌, Bool, true, false, cond, refl, sym, ap, ◌∙◌, subst, arith, List, [], ◌∷◌, map, length, get_or, take, slice_range, nat_lt, ◌-◌}
+use Rattle.std.proofs.Common.{bit_xor, replicate, ⊎_elim, inl, inr}
 use Rattle.std.specs.List.{range_with_len, filter}
 use Rattle.std.proofs.lemmas.List.{ext_get_or, length-take-le, get_or-take, length-replicate, get_or-replicate}
 use Rattle.std.proofs.lemmas.List.FromFn.{length-range_with_len, length-map-range_with_len, get_or-map-range_with_len}

@@ -8,7 +8,8 @@ use Rattle.cod_field.proofs.Laws.{product_lt, product_comm, product_assoc, produ
 use Rattle.cod_code.specs.Codewords.{value_at}
 use Rattle.cod_code.proofs.Bytes.{EachByte}
 use Rattle.cod_code.specs.Columns.{quotient, weight}
-use Rattle.cod_code.proofs.Polynomials.{IsApart, AreDistinct, AreRoots, xor_equal, value_nil, value_cons, sum_of, sum_length, sum_bytes, sum_value, multiple, multiple_length, multiple_bytes, multiple_value, by_root, by_root_length, by_root_bytes, by_root_value, no_more_roots}
+use Rattle.cod_code.proofs.Polynomials.{IsApart, AreDistinct, AreRoots, xor_equal, value_nil, value_cons, sum_of, sum_length, sum_bytes, sum_value, multiple, multiple_length, multiple_bytes}
+use Rattle.cod_code.proofs.Polynomials.{multiple_value, by_root, by_root_length, by_root_bytes, by_root_value, no_more_roots}
 use Rattle.cod_code.proofs.Quotients.{IsIn, quotient_lt, quotient_unique, quotient_product, weight_nil, weight_skip, weight_step, weight_lt, weight_itself, weight_other}
 
 -- the polynomial with the values weight ps s x

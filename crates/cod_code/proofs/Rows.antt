@@ -76,7 +76,8 @@ below_same sources m s x e =
       | false ↦ λ t. below_skip sources m s x t
     ] refl
 
-pub below_other : (sources m s x : ℕ) → has_column sources m ≡ true → m ≢ s → weight (columns_below sources (m + 1)) s x ≡ product (weight (columns_below sources m) s x) (quotient (bit_xor x m) (bit_xor s m))
+pub below_other : (sources m s x : ℕ) → has_column sources m ≡ true → m ≢ s
+    → weight (columns_below sources (m + 1)) s x ≡ product (weight (columns_below sources m) s x) (quotient (bit_xor x m) (bit_xor s m))
 below_other sources m s x t e =
     ap (λ ps. weight ps s x) (below_more sources m)
     ∙ ap (λ v. weight (columns_below sources m ++ cond v (m ∷ []) []) s x) t

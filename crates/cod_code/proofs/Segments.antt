@@ -11,7 +11,8 @@ use Rattle.cod_code.specs.Codewords.{AreBytes, IsCodeword}
 use Rattle.cod_code.specs.Columns.{gamma, row_at, combination}
 use Rattle.cod_code.specs.Encoding.{coded}
 use Rattle.cod_code.specs.Segments.{across, column_byte, column}
-use Rattle.cod_code.specs.SegmentLaws.{HasCodewordBytes, ColumnHasCodewordBytes, ColumnsAreCodewords, DataColumnIsBlock, RowGivesColumn, DecodingGivesColumn, BlockChangesColumn, OtherPlacesStay, ZerosHaveZeroColumns}
+use Rattle.cod_code.specs.SegmentLaws.{HasCodewordBytes, ColumnHasCodewordBytes, ColumnsAreCodewords, DataColumnIsBlock, RowGivesColumn, DecodingGivesColumn, BlockChangesColumn, OtherPlacesStay}
+use Rattle.cod_code.specs.SegmentLaws.{ZerosHaveZeroColumns}
 use Rattle.cod_code.proofs.CodewordLaws.{data_begin_one_codeword, has_below}
 use Rattle.cod_code.proofs.Encoding.{codeword_byte, coded_is_codeword, coded_changes, gamma_lt}
 use Rattle.cod_code.proofs.Decoding.{decoded_is_place}

@@ -3,7 +3,8 @@
 ghost use Rattle.cod_code.specs.Laws.{QuotientIsTheOne, AnyPlacesDetermine, DataBeginOneCodeword, PlaceIsSum, CoefficientsAddUpToOne};
 ghost use Rattle.cod_code.specs.Encoding.{CodedIsCodeword, CodedChanges};
 ghost use Rattle.cod_code.specs.Decoding.{DecodedIsPlace};
-ghost use Rattle.cod_code.specs.SegmentLaws.{ColumnHasCodewordBytes, ColumnsAreCodewords, DataColumnIsBlock, RowGivesColumn, DecodingGivesColumn, BlockChangesColumn, OtherPlacesStay, ZerosHaveZeroColumns};
+ghost use Rattle.cod_code.specs.SegmentLaws.{ColumnHasCodewordBytes, ColumnsAreCodewords, DataColumnIsBlock, RowGivesColumn, DecodingGivesColumn};
+ghost use Rattle.cod_code.specs.SegmentLaws.{BlockChangesColumn, OtherPlacesStay, ZerosHaveZeroColumns};
 
 /// The quotient of two bytes is the one byte whose product with the divisor is the dividend.
 #[tactic(auto, using(crate::proofs::Quotients::quotient_is_the_one))]

@@ -5,6 +5,3 @@ mod column;
 pub mod laws;
 
 pub use column::DataColumn;
-
-#[cfg(test)]
-mod tests;

@@ -63,12 +63,15 @@ impl Source for MemSource {
     fn read(&mut self, into: &mut [u8]) -> Result<usize, Failed>
         requires { 0 < length into.old }
         ensures count { IfOk result (λ n. n ≤ length into.old) }
-        ensures bytes { MatchResult result (λ n. Some self.old.left ≡ prepend_known (take n into.new) (Some self.new.left)) (λ _. self.new.left ≡ self.old.left) }
+        ensures bytes { MatchResult result (λ n. Some self.old.left ≡ prepend_known (take n into.new) (Some self.new.left)) (λ _. self.new.left
+            ≡ self.old.left) }
         ensures end { IfOk result (λ n. n ≡ 0 → self.old.left ≡ []) }
         ensures cause { HasCause self.old.faults self.new.faults result }
 
         ensures listed { IsErr result ↔ IsTrue (is_listed self.old.fails self.old.calls) }
-        ensures handed { IfOk result (λ n. (n ≡ min (min (length self.old.left) (length into.old)) self.old.step) × (into.new ≡ take n self.old.left ++ drop n into.old) × (self.new ≡ record self.old { left = drop n self.old.left; calls = bump self.old.calls })) }
+        ensures handed { IfOk result (λ n. (n ≡ min (min (length self.old.left) (length into.old)) self.old.step)
+            × (into.new ≡ take n self.old.left ++ drop n into.old)
+            × (self.new ≡ record self.old { left = drop n self.old.left; calls = bump self.old.calls })) }
         ensures failed { OnErr result ((into.new ≡ into.old) × (self.new ≡ record self.old { calls = bump self.old.calls; faults = bump self.old.faults })) }
     {
         let listed = self.fails.contains(&self.calls);
@@ -150,7 +153,8 @@ impl Sink for MemSink {
         ensures cause { HasCause self.old.faults self.new.faults result }
 
         ensures listed { IsErr result ↔ (IsTrue (is_listed self.old.fails self.old.calls) ⊎ (length self.old.taken ≡ self.old.room)) }
-        ensures handed { IfOk result (λ n. (n ≡ min (self.old.room - length self.old.taken) (length from.now)) × (self.new ≡ record self.old { taken = self.old.taken ++ take n from.now; calls = bump self.old.calls })) }
+        ensures handed { IfOk result (λ n. (n ≡ min (self.old.room - length self.old.taken) (length from.now))
+            × (self.new ≡ record self.old { taken = self.old.taken ++ take n from.now; calls = bump self.old.calls })) }
         ensures failed { OnErr result (self.new ≡ record self.old { calls = bump self.old.calls; faults = bump self.old.faults }) }
     {
         let listed = self.fails.contains(&self.calls);

@@ -6,13 +6,14 @@ use Rattle.std.proofs.lemmas.List.{take_at, drop_at, get_or_past}
 use Rattle.std.specs.Int.Bits.{xor_zero_r}
 use Rattle.std.specs.List.{flat_map, filter, AllByRecursion}
 use Rattle.cod_types.specs.Limits.{Shape}
+use Rattle.cod_record.proofs.Inside.{range_byte-behind}
 use Rattle.cod_parity.specs.Log.{Logged, IsIn, IsValue, text, is_past, change, share}
 use Rattle.cod_parity.proofs.Records.{share_past, share_in}
 
 share_behind : (g : Shape) (cuts : List ℕ) (l : Logged) (x : ℕ) → IsIn g l → g.block ≤ x → share cuts l x ≡ 0
 share_behind g cuts l x is behind = elim (cases_lt (get_or cuts l.whole.block 0) l.whole.number) [
   | inl past ↦ share_past cuts l x past
-  | inr within ↦ share_in cuts l x within ∙ is.inside x behind
+  | inr within ↦ share_in cuts l x within ∙ range_byte-behind l.whole.ranges g.block x is.inside behind
 ]
 
 -- no record adds anything behind the block

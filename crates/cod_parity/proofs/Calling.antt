@@ -1,5 +1,6 @@
 -- What the calls of a column do to its state.
-use Rattle.std.proofs.Common.{◌≡◌, ℕ, ◌+◌, ◌-◌, ◌<◌, ◌≤◌, ◌^◌, List, [], ◌∷◌, ◌++◌, length, take, drop, set, min, get_or, Option, Some, None, Result, Ok, Err, refl, sym, ap, ap₂, ◌∙◌, subst, arith, inr}
+use Rattle.std.proofs.Common.{◌≡◌, ℕ, ◌+◌, ◌-◌, ◌<◌, ◌≤◌, ◌^◌, List, [], ◌∷◌, ◌++◌, length, take, drop, set, min, get_or, Option, Some, None, Result, Ok, Err, refl, sym, ap, ap₂, ◌∙◌, subst, arith}
+use Rattle.std.proofs.Common.{inr}
 use Rattle.std.proofs.lemmas.Bool.{le-ltb, lt-ltb}
 use Rattle.std.proofs.lemmas.List.{drop-drop}
 use Rattle.std.specs.Result.{IsErr, MatchResult, OnOk}
@@ -56,7 +57,7 @@ appended s version h bytes into len at low more d within first last few inside l
     ∙ ap₂ (λ (b n : ℕ). set s.lowest b (min (get_or s.lowest b 0) n)) (sym place.0) (sym place.1) in
     let new_is : record { shape = s.shape; size = s.size; used = s.used + len; appended = more; average = s.average; lowest = set s.lowest h.block low; device = d } ≡ with_record l s =
     λ i. record { shape = s.shape; size = s.size; used = used i; appended = most i; average = s.average; lowest = lowest i; device = dev i } in
-    let is_in : IsIn s.shape l = logged_in s.shape version h bytes first last few (omega (arith, inside, len_is)) (omega (arith, within.most_bytes)) is in
+    let is_in : IsIn s.shape l = logged_in s.shape version h bytes first last few (omega (arith, inside, len_is)) is in
     record {
       is = new_is;
       means = λ base records means. subst (λ (t : State). Means t base (records ++ l ∷ [])) (sym new_is) (record_means s l base records is_in means);
@@ -120,6 +121,7 @@ roomy cuts s mid len n m is room = record {
       let e : mid.used ≡ n = omega (arith, done.1.used, size, fits, is) in
       (done.0, subst (λ (k : ℕ). Means (record mid { used = k }) done.0 (filter (is_past cuts) records)) e done.1, done.2);
   less = omega (arith, is, m.less);
+  none_due = m.none_due;
   same = ap (λ (t : State). record t { used = n }) m.same;
 }
 

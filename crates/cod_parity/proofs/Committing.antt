@@ -29,7 +29,9 @@ share_same cuts higher j l x rise other = elim (cases_lt (get_or cuts l.whole.bl
 ]
 
 -- whether a record is in flight in block j
-pub tells_pending : (cuts : List ℕ) (j : ℕ) (l : Logged) → ((is_pending cuts j l ≡ true) × (get_or cuts l.whole.block 0 < l.whole.number) × (l.whole.block ≡ j)) ⊎ ((is_pending cuts j l ≡ false) × (get_or cuts l.whole.block 0 < l.whole.number → l.whole.block ≢ j))
+pub tells_pending : (cuts : List ℕ) (j : ℕ) (l : Logged)
+    → ((is_pending cuts j l ≡ true) × (get_or cuts l.whole.block 0 < l.whole.number) × (l.whole.block ≡ j)) ⊎ ((is_pending cuts j l ≡ false)
+    × (get_or cuts l.whole.block 0 < l.whole.number → l.whole.block ≢ j))
 tells_pending cuts j l = elim (cases_lt (get_or cuts l.whole.block 0) l.whole.number) [
   | inl past ↦ elim (cases_eq l.whole.block j) [
     | inl here ↦ inl (rw (lt-ltb (get_or cuts l.whole.block 0) l.whole.number past, eq-eqb l.whole.block j here) refl, past, here)
@@ -130,10 +132,12 @@ committed s cuts v p j within h =
       value_is = λ x inside.
           let e = change_rises cuts (raised_cut cuts j) j h.records x rise in
           rw (e, ← xor_assoc (get_or h.base x 0) (change cuts h.records x) (change (raised_cut cuts j) (filter (is_pending cuts j) h.records) x))
-          (added_is s.shape (raised_cut cuts j) j (get_or cuts j 0 + 1) x (bit_xor (get_or h.base x 0) (change cuts h.records x)) v (p j) (filter (is_pending cuts j) h.records) le (sym (h.value_is x inside)) (h.in_flight j));
+          (added_is s.shape (raised_cut cuts j) j (get_or cuts j 0 + 1) x (bit_xor (get_or h.base x 0) (change cuts h.records x)) v (p j) (filter (is_pending cuts j) h.records) le (sym
+          (h.value_is x inside)) (h.in_flight j));
       in_flight = λ i. elim (cases_eq i j) [
         | inl same ↦ let e : without_piece p j i ≡ None = rw (eq-eqb i j same) refl in
-            let f : filter (is_pending (raised_cut cuts j) j) h.records ≡ [] = still cuts (raised_cut cuts j) j h.records rise ∙ none_left s.shape (raised_cut cuts j) j (get_or cuts j 0 + 1) (p j) (filter (is_pending cuts j) h.records) le (h.in_flight j) in
+            let f : filter (is_pending (raised_cut cuts j) j) h.records ≡ [] = still cuts (raised_cut cuts j) j h.records rise
+            ∙ none_left s.shape (raised_cut cuts j) j (get_or cuts j 0 + 1) (p j) (filter (is_pending cuts j) h.records) le (h.in_flight j) in
             rw (e, same) f
         | inr other ↦ let e : without_piece p j i ≡ p i = rw (ne_eqb i j other) refl in
             let c = rise.same i other in

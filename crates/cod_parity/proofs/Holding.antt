@@ -1,5 +1,5 @@
 -- How the calls of a parity column and a commit keep what it holds.
-use Rattle.std.proofs.Common.{◌≡◌, ◌≢◌, ℕ, ◌+◌, ◌<◌, ◌≤◌, List, [], ◌∷◌, ◌++◌, get_or, refl, sym, ap, ◌∙◌, subst, inl, inr, ◌⊎◌, bit_xor, arith, Some, None, Option, Result, Ok, Err}
+use Rattle.std.proofs.Common.{◌≡◌, ◌≢◌, ℕ, ◌+◌, ◌<◌, ◌≤◌, List, [], ◌∷◌, ◌++◌, get_or, refl, sym, ap, ◌∙◌, inl, inr, bit_xor, arith, Some, None, Option, Result, Ok, Err}
 use Rattle.std.proofs.lemmas.Bool.{cases_lt, cases_eq, lt-ltb, le-ltb, eq-eqb, ne_eqb}
 use Rattle.std.proofs.lemmas.List.{append-nil}
 use Rattle.std.proofs.lemmas.List.Elements.{filter-append}
@@ -9,7 +9,7 @@ use Rattle.std.specs.Result.{MatchResult, OnOk}
 use Rattle.cod_types.specs.Limits.{Shape}
 use Rattle.cod_parity.specs.Log.{change, IsDue, is_past, IsIncluded, IsValue, Logged, share}
 use Rattle.cod_parity.specs.State.{Means, State}
-use Rattle.cod_parity.specs.Calls.{Appends, FailsRead, Merges, MergesIfDue}
+use Rattle.cod_parity.specs.Calls.{Appends, Merges}
 use Rattle.cod_parity.proofs.Lowest.{not_due}
 use Rattle.cod_parity.specs.Held.{AreInFlight, HasValue, Holds, is_pending, IsPiece, no_pieces, Piece, with_piece}
 use Rattle.cod_parity.proofs.Records.{share_past}
@@ -81,17 +81,6 @@ pub read_value : {E T : Type 0} (result : Result T E) (cuts : List ℕ) (s : Sta
 read_value (Ok u) cuts s v into off n inside value h = λ x within. value h.holds.base h.holds.records h.holds.means x within ∙ h.holds.value_is (off + x) (omega (arith, inside, within))
 read_value (Err e) cuts s v into off n inside value h = tt
 
-pub read_holds : (cuts : List ℕ) (s t : State) (v : ℕ → ℕ) (p : ℕ → Option Piece) → FailsRead s t → Holds s cuts v p → Holds t cuts v p
-read_holds cuts s t v p same h =
-    let m : Means s h.base h.records = h.means in
-    subst (λ (u : State). Holds u cuts v p) (sym same) (record {
-      base = h.base;
-      records = h.records;
-      means = record { rest = m.rest; content = m.content; base_size = m.base_size; used = m.used; each = m.each; noted = m.noted };
-      value_is = h.value_is;
-      in_flight = h.in_flight;
-    })
-
 -- a column of no record holds its base
 pub empty_holds : (cuts base : List ℕ) (s : State) → Means s base [] → Holds s cuts (λ x. get_or base x 0) no_pieces
 empty_holds cuts base s means = record { base = base; records = []; means = means; value_is = λ x within. xor_zero_r (get_or base x 0); in_flight = λ j. refl }
@@ -102,11 +91,6 @@ pub idle_means : (s : State) (cuts base : List ℕ) (ls : List Logged) → s.sha
 idle_means s cuts base ls few none means =
     let nothing = not_due s cuts base ls few means none in
     (base, rw (all_past cuts ls nothing) means, none_included cuts base ls nothing)
-
-pub if_due_means : (s t : State) (cuts base : List ℕ) (ls : List Logged) → s.shape.k ≤ 16 → MergesIfDue cuts s t → (IsDue s.lowest cuts ⊎ (IsDue s.lowest cuts → ⊥)) → Means s base ls
-    → (next : List ℕ) × Means t next (filter (is_past cuts) ls) × IsValue cuts base ls next
-if_due_means s t cuts base ls few m (inl due) means = (m.0 due).means base ls means
-if_due_means s t cuts base ls few m (inr none) means = rw (m.1 none) (idle_means s cuts base ls few none means)
 
 pub merges_shape : (cuts : List ℕ) (s t : State) → Merges cuts s t → t.shape ≡ s.shape
 merges_shape cuts s t m = ap (λ (u : State). u.shape) m.same

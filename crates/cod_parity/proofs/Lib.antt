@@ -1,4 +1,3 @@
-pub mod Adding
 pub mod Appending
 pub mod Buffers
 pub mod Calling
@@ -6,6 +5,7 @@ pub mod Committing
 pub mod Holding
 pub mod Lowest
 pub mod Meaning
+pub mod Moving
 pub mod Pieces
 pub mod Ranging
 pub mod Records

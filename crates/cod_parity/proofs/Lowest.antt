@@ -1,12 +1,12 @@
 -- What the least numbers say, and what a raised cut adds.
-use Rattle.std.proofs.Common.{◌≡◌, ℕ, ◌-◌, ◌<◌, ◌≤◌, ◌^◌, List, [], ◌∷◌, length, get_or, min, cond, refl, sym, ap, ◌∙◌, subst, inl, inr, bit_xor, arith}
+use Rattle.std.proofs.Common.{◌≡◌, ◌⊎◌, ℕ, zero, suc, ◌-◌, ◌<◌, ◌≤◌, ◌^◌, List, [], ◌∷◌, length, get_or, set, min, cond, refl, sym, ap, ◌∙◌, subst, inl, inr, bit_xor, arith}
 use Rattle.std.proofs.lemmas.Bool.{cases_lt, cases_eq, lt-ltb, le-ltb}
 use Rattle.std.proofs.lemmas.List.{get_or-set_same, get_or-set_other, length-set, get_or-replicate}
 use Rattle.std.proofs.lemmas.Nat.{xor_comm}
 use Rattle.std.specs.Int.Bits.{xor_zero_l, xor_assoc}
 use Rattle.std.specs.List.{AllByRecursion, filter}
 use Rattle.cod_types.specs.Limits.{Shape}
-use Rattle.cod_parity.specs.Log.{Logged, IsIn, is_past, note, no_lowest, lowest_from, IsDue, IsIncluded, change, share}
+use Rattle.cod_parity.specs.Log.{AreBelowEnd, Logged, IsIn, is_past, note, no_lowest, lowest_from, IsDue, IsIncluded, change, share}
 use Rattle.cod_parity.specs.State.{Means, State}
 use Rattle.cod_parity.proofs.Records.{share_past, share_in}
 
@@ -60,7 +60,7 @@ module _ (g : Shape) (few : g.k ≤ 16) (cuts : List ℕ) where
   ]
 
   -- the numbers are due exactly where some record is at or below its cut
-  pub due_to : (ls : List Logged) → AllByRecursion (IsIn g) ls → ((j : ℕ) → j < 16 → get_or cuts j 0 < 2 ^ 64 - 1) → IsDue (lowest_from no_lowest ls) cuts → IsIncluded cuts ls
+  pub due_to : (ls : List Logged) → AllByRecursion (IsIn g) ls → AreBelowEnd cuts → IsDue (lowest_from no_lowest ls) cuts → IsIncluded cuts ls
   unfolding no_lowest
   due_to ls each small due =
       let top = get_or-replicate 16 due.0 (2 ^ 64 - 1) 0 due.1 in
@@ -100,3 +100,42 @@ raised cuts higher (l ∷ ls) x up = elim (cases_lt (get_or cuts l.whole.block 0
       ∙ sym (xor_assoc (share cuts l x) (change cuts ls x) (change higher kept x))
       ∙ ap (λ p. bit_xor (bit_xor (share cuts l x) (change cuts ls x)) (change higher (cond p (l ∷ kept) kept) x)) (sym (le-ltb (get_or cuts l.whole.block 0) l.whole.number within))
 ]
+
+-- whether one of the first n numbers is due
+due_below : (low cuts : List ℕ) (n : ℕ) → ((j : ℕ) × (j < n) × (get_or low j 0 ≤ get_or cuts j 0)) ⊎ ((j : ℕ) → j < n → get_or cuts j 0 < get_or low j 0)
+due_below low cuts zero = inr (λ j few. absurd (omega arith))
+due_below low cuts (suc n) = elim (due_below low cuts n) [
+  | inl due ↦ inl (due.0, omega (arith, due.1), due.2)
+  | inr none ↦ elim (cases_lt (get_or cuts n 0) (get_or low n 0)) [
+    | inl past ↦ inr (λ j few. elim (cases_eq j n) [
+      | inl same ↦ rw same past
+      | inr other ↦ none j (omega (arith, few, other))
+    ])
+    | inr now ↦ inl (n, omega arith, now)
+  ]
+]
+
+pub due_or_not : (low cuts : List ℕ) → IsDue low cuts ⊎ (IsDue low cuts → ⊥)
+due_or_not low cuts = elim (due_below low cuts 16) [
+  | inl due ↦ inl due
+  | inr none ↦ inr (λ due. let past = none due.0 due.1 in omega (arith, due.2, past))
+]
+
+-- a number past its cut makes none due
+pub still_none : (low cuts : List ℕ) (block number n : ℕ) → (number ≤ get_or cuts block 0 → ⊥) → block < length low → n ≡ min (get_or low block 0) number
+    → IsDue (set low block n) cuts → IsDue low cuts
+still_none low cuts block number n past within is due = elim (cases_eq due.0 block) [
+  | inl same ↦
+      let at = get_or-set_same low block n 0 within in
+      let now : get_or (set low block n) block 0 ≤ get_or cuts block 0 = subst (λ (k : ℕ). get_or (set low block n) k 0 ≤ get_or cuts k 0) same due.2 in
+      (block, omega (arith, same, due.1), omega (arith, at, now, is, past))
+  | inr other ↦ let at = get_or-set_other low block due.0 n 0 other in (due.0, due.1, omega (arith, at, due.2))
+]
+
+-- and where there is no record, none is due
+pub none_due : (cuts : List ℕ) → AreBelowEnd cuts → IsDue no_lowest cuts → ⊥
+unfolding no_lowest
+none_due cuts small due =
+    let top = get_or-replicate 16 due.0 (2 ^ 64 - 1) 0 due.1 in
+    let below = small due.0 due.1 in
+    omega (arith, top, below, due.2)

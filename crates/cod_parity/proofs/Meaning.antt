@@ -1,7 +1,9 @@
 -- What the calls of a column leave of its meaning.
-use Rattle.std.proofs.Common.{◌≡◌, ℕ, ◌+◌, ◌-◌, ◌<◌, ◌≤◌, List, [], ◌∷◌, ◌++◌, length, take, drop, min, get_or, Option, Some, Bool, true, false, nat_lt, refl, sym, ap, ◌∙◌, subst, cond, bit_xor, arith, length-append}
+use Rattle.std.proofs.Common.{◌≡◌, ℕ, ◌+◌, ◌-◌, ◌<◌, ◌≤◌, List, [], ◌∷◌, ◌++◌, length, take, drop, min, get_or, Option, Some, Bool, true, false, nat_lt, refl, sym, ap, ◌∙◌, subst, cond, bit_xor}
+use Rattle.std.proofs.Common.{arith, length-append}
 use Rattle.std.specs.Int.Bits.{xor_zero_r}
-use Rattle.std.proofs.lemmas.List.{take_at, take_all, drop_at, drop-append-le, length-drop, drop-drop, drop-take, get_or-take, get_or-drop, get_or_append_left, take-append-le, length-take-le, append_assoc, append-nil, take-append-drop}
+use Rattle.std.proofs.lemmas.List.{take_at, take_all, drop_at, drop-append-le, length-drop, drop-drop, drop-take, get_or-take, get_or-drop, get_or_append_left, take-append-le, length-take-le}
+use Rattle.std.proofs.lemmas.List.{append_assoc, append-nil, take-append-drop}
 use Rattle.std.proofs.lemmas.Grind.{flat_map-append}
 use Rattle.std.proofs.Math.Seq.{take-append-add}
 use Rattle.std.specs.List.{flat_map, filter, AllByRecursion}
@@ -79,7 +81,15 @@ record_means s l base records is_in means =
 pub cut_means : (s : State) (size : ℕ) (base : List ℕ) (records : List Logged) → s.used ≤ size → Means s base records → Means (cut_to size s) base records
 unfolding cut_to
 cut_means s size base records fits means =
-    elim (nat_lt size s.size) as (λ b. Means (cond b (record s { size = size; used = min s.used size; device = record s.device { size = s.shape.block + size; content = option_map (take (s.shape.block + size)) s.device.content } }) s) base records) [
+    elim (nat_lt size s.size) as (λ b. Means (cond b (record s {
+      size = size;
+      used = min s.used size;
+      device = record s.device {
+        size = s.shape.block + size;
+        content = option_map (take
+            (s.shape.block + size)) s.device.content;
+      };
+    }) s) base records) [
       | true ↦
           let start : List ℕ = base ++ flat_map text records in
           let long : length start ≡ s.shape.block + s.used = omega (arith, length-append base (flat_map text records), means.base_size, means.used) in
@@ -99,7 +109,7 @@ cut_means s size base records fits means =
     ]
 
 -- the base and the log, as a read from the front gives them
-read_front : (s : State) (base : List ℕ) (records : List Logged) (into : List ℕ) → Means s base records
+pub read_front : (s : State) (base : List ℕ) (records : List Logged) (into : List ℕ) → Means s base records
     → Reads s.device.content 0 into → length into ≡ s.shape.block + s.used → into ≡ base ++ flat_map text records
 read_front s base records into means read size =
     let flat : List ℕ = flat_map text records in
@@ -179,8 +189,10 @@ read_log s base records read off behind means at size got =
     let is : read ≡ take (length read) (drop off whole) = subst (λ o. Reads o off read) means.content got in
     let cut : read ≡ take (behind + s.used) (drop off whole) = is ∙ ap (λ (n : ℕ). take n (drop off whole)) size in
     let rest : drop behind (drop off whole) ≡ flat ++ means.rest =
-    drop-drop behind off whole ∙ ap (λ (n : ℕ). drop n whole) at ∙ ap (λ (b : List ℕ). drop s.shape.block b) (append_assoc base flat means.rest) ∙ drop_at base (flat ++ means.rest) s.shape.block means.base_size in (
-      ap (λ (b : List ℕ). take s.used b) (ap (λ (b : List ℕ). drop behind b) cut ∙ drop-take behind s.used (drop off whole) ∙ ap (λ (b : List ℕ). take s.used b) rest ∙ take_at flat means.rest s.used means.used)
+    drop-drop behind off whole ∙ ap (λ (n : ℕ). drop n whole) at ∙ ap (λ (b : List ℕ). drop s.shape.block b) (append_assoc base flat means.rest)
+    ∙ drop_at base (flat ++ means.rest) s.shape.block means.base_size in (
+      ap (λ (b : List ℕ). take s.used b) (ap (λ (b : List ℕ). drop behind b) cut ∙ drop-take behind s.used (drop off whole) ∙ ap (λ (b : List ℕ). take s.used b) rest
+          ∙ take_at flat means.rest s.used means.used)
           ∙ take_all s.used flat (omega (arith, means.used)),
       (λ x inside within. read_base base flat means.rest read off x is inside within),
     )

@@ -5,10 +5,9 @@ use Rattle.std.proofs.lemmas.List.{length-map}
 use Rattle.cod_field.specs.Field.{product}
 use Rattle.cod_types.specs.Limits.{floor, IsWithin, record_overhead, Shape}
 use Rattle.cod_record.specs.declared.parts.Head.{Head}
-use Rattle.cod_record.proofs.Lengths.{most}
 use Rattle.cod_parity.specs.Log.{logged, logged_length, scaled, text}
 use Rattle.cod_parity.specs.State.{IsKept, State}
-use Rattle.cod_parity.proofs.Spelled.{first_length_is, length-logged, second_length_is}
+use Rattle.cod_parity.proofs.Spelled.{first_length_is, length-logged}
 
 times_one : (k m : ℕ) → 1 ≤ k → m ≤ k * m
 times_one k m some = omega (arith, mul-le-mul_right {m = 1} {n = k} m some)
@@ -45,12 +44,3 @@ first_room s version h bytes kept asks fits = elim (cases_eq version 2) [
 pub told_length : (version : ℕ) (h : Head) (bytes into : List ℕ) (n : ℕ) → 1 ≤ version → version ≤ 2 → into ≡ bytes → n ≡ length (text (logged version h into))
     → n ≡ logged_length version h bytes
 told_length version h bytes into n first last same is = is ∙ ap (λ (b : List ℕ). length (text (logged version h b))) same ∙ length-logged version h bytes first last
-
--- no record has more than 21 bytes beside those of the update
-pub record_most : (version : ℕ) (h : Head) (coef : ℕ) (bytes : List ℕ) → logged_length version h (scaled coef bytes) ≤ 21 + length bytes
-record_most version h coef bytes =
-    let len = length-scaled coef bytes in
-    elim (cases_eq version 2) [
-      | inl second ↦ let e = second_length_is version h (scaled coef bytes) second in let m = most h.off (scaled coef bytes) in omega (arith, e, m, len)
-      | inr other ↦ let e = first_length_is version h (scaled coef bytes) other in omega (arith, e, len)
-    ]

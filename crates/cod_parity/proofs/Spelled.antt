@@ -1,18 +1,23 @@
 -- The text of a record that is to be appended.
-use Rattle.std.proofs.Common.{◌≡◌, ℕ, suc, ◌+◌, ◌<◌, ◌≤◌, ◌^◌, List, [], ◌++◌, length, refl, sym, ap, ◌∙◌, arith, inl, inr, length-append}
+use Rattle.std.proofs.Common.{◌≡◌, ◌≢◌, ℕ, suc, ◌+◌, ◌<◌, ◌≤◌, ◌^◌, List, [], ◌∷◌, ◌++◌, length, get_or, refl, sym, ap, ◌∙◌, arith, inl, inr, length-append}
 use Rattle.std.proofs.lemmas.Bool.{cases_eq, eq-eqb, ne_eqb}
 use Rattle.cod_record.specs.declared.parts.Head.{Head}
 use Rattle.cod_record.specs.Head.{head_record, head_text, InRange}
-use Rattle.cod_record.specs.Record.{count_text, IsRecord, range, range_byte, range_text, ranges_text, Record, record_text}
+use Rattle.cod_record.specs.Record.{AreInside, count_text, IsRecord, Range, range, range_byte, range_text, ranges_text, Record, record_text}
 use Rattle.cod_record.specs.Sparse.{ranges_of, sparse_length, sparse_record}
+use Rattle.cod_field.specs.Field.{product}
+use Rattle.cod_field.proofs.Laws.{product_zero, product_zero_left}
+use Rattle.cod_field.proofs.Tables.{product_cancel}
+use Rattle.std.proofs.lemmas.List.{length-map}
 use Rattle.cod_record.proofs.Heads.{head_begins_record}
+use Rattle.cod_record.proofs.Inside.{ranges_of-inside}
+use Rattle.cod_record.proofs.Same_places.{KeepsZeros, mapped_length, zeros_none}
 use Rattle.cod_record.proofs.Lengths.{length-ranges_text, most}
 use Rattle.cod_record.proofs.Texts.{length-range_text}
 use Rattle.cod_record.proofs.Splitting.{ranges_of-bytes}
 use Rattle.cod_types.specs.Limits.{record_overhead, Shape}
 use Rattle.cod_types.specs.Overwritten.{byte_at}
-use Rattle.cod_types.proofs.Replaced.{byte_after}
-use Rattle.cod_parity.specs.Log.{IsIn, logged, logged_length, text}
+use Rattle.cod_parity.specs.Log.{IsIn, logged, logged_length, scaled, text}
 
 pub second_is : (version : ℕ) (h : Head) (bytes : List ℕ) → version ≡ 2 → logged version h bytes ≡ record { version = 2; whole = sparse_record h.block h.number h.off bytes }
 unfolding logged
@@ -93,15 +98,48 @@ logged_place version h bytes first last = elim (cases_eq version 2) [
   | inr other ↦ rw (first_is version h bytes (omega arith)) (refl, refl)
 ]
 
+inside_more : (ranges : List Range) (end more : ℕ) → end ≤ more → AreInside end ranges → AreInside more ranges
+inside_more [] end more le are = tt
+inside_more (g ∷ gs) end more le are = (omega (arith, are.0), inside_more gs end more le are.1)
+
+logged_inside : (version : ℕ) (h : Head) (bytes : List ℕ) → 1 ≤ version → version ≤ 2 → AreInside (h.off + length bytes) (logged version h bytes).whole.ranges
+logged_inside version h bytes first last = elim (cases_eq version 2) [
+  | inl second ↦ rw (second_is version h bytes second) (ranges_of-inside h.off bytes)
+  | inr other ↦ rw (first_is version h bytes (omega arith)) (omega arith, tt)
+]
+
 -- the record lies inside the block
-pub logged_in : (g : Shape) (version : ℕ) (h : Head) (bytes : List ℕ) → 1 ≤ version → version ≤ 2 → h.block < g.k → h.off + length bytes ≤ g.block → g.block < 2 ^ 32
+pub logged_in : (g : Shape) (version : ℕ) (h : Head) (bytes : List ℕ) → 1 ≤ version → version ≤ 2 → h.block < g.k → h.off + length bytes ≤ g.block
     → IsRecord version (logged version h bytes).whole (text (logged version h bytes)) → IsIn g (logged version h bytes)
 unfolding logged
-logged_in g version h bytes first last few inside small is = record {
+logged_in g version h bytes first last few inside is = record {
   is = is;
   block = let place = logged_place version h bytes first last in omega (arith, place.0, few);
-  inside = λ x behind. logged_bytes version h bytes first last (omega arith) x ∙ byte_after x 0 h.off bytes (omega arith);
+  inside = inside_more (logged version h bytes).whole.ranges (h.off + length bytes) g.block inside (logged_inside version h bytes first last);
 }
+
+-- a coefficient that isn't 0 leaves just the zeros
+keeps_zeros : (coef : ℕ) (bytes : List ℕ) → coef ≢ 0 → coef < 256 → ((i : ℕ) → get_or bytes i 0 < 256) → KeepsZeros (product coef) bytes
+keeps_zeros coef bytes some small are i within = elim (cases_eq (get_or bytes i 0) 0) [
+  | inl none ↦ let e : product coef (get_or bytes i 0) ≡ 0 = ap (product coef) none ∙ product_zero coef small in rw (e, none) refl
+  | inr not_none ↦ rw (ne_eqb (product coef (get_or bytes i 0)) 0 (λ e. not_none (product_cancel coef (get_or bytes i 0) small (are i) some e)), ne_eqb (get_or bytes i 0) 0 not_none) refl
+]
+
+-- such a coefficient leaves the text's length
+pub scaled_length : (version coef : ℕ) (h : Head) (bytes : List ℕ) → (version ≡ 2 → coef ≢ 0) → coef < 256 → ((i : ℕ) → get_or bytes i 0 < 256)
+    → logged_length version h (scaled coef bytes) ≡ logged_length version h bytes
+scaled_length version coef h bytes some small are = elim (cases_eq version 2) [
+  | inl second ↦
+      rw (second_length_is version h (scaled coef bytes) second, second_length_is version h bytes second)
+      (ap (λ (n : ℕ). 13 + n) (mapped_length (product coef) h.off bytes (keeps_zeros coef bytes (some second) small are)))
+  | inr other ↦ rw (first_length_is version h (scaled coef bytes) other, first_length_is version h bytes other) (ap (λ (n : ℕ). 19 + n) (length-map bytes (product coef)))
+]
+
+-- nothing is left of bytes times 0
+pub nothing_length : (version coef : ℕ) (h : Head) (bytes : List ℕ) → version ≡ 2 → coef ≡ 0 → logged_length version h (scaled coef bytes) ≡ 13
+nothing_length version coef h bytes second none =
+    let e : ranges_of h.off (scaled coef bytes) ≡ [] = rw none (zeros_none (product 0) h.off bytes product_zero_left) in
+    second_length_is version h (scaled coef bytes) second ∙ ap sparse_length e
 
 overhead_least : (version : ℕ) → 19 ≤ record_overhead version
 overhead_least version = elim (cases_eq version 2) [

@@ -4,7 +4,7 @@ use Rattle.std.specs.List.{filter}
 use Rattle.std.specs.Option.{is_some, option_map}
 use Rattle.cod_types.specs.Faults.{bump}
 use Rattle.cod_region.specs.Device.{Torn}
-use Rattle.cod_parity.specs.Log.{IsDue, is_past, IsValue, Logged}
+use Rattle.cod_parity.specs.Log.{AreBelowEnd, IsDue, is_past, IsValue, Logged}
 use Rattle.cod_parity.specs.State.{cut_to, Means, State, was_read, with_record}
 
 -- Only the region may differ, and of it only its faults; it was read once before.
@@ -16,12 +16,19 @@ pub record FailsWrite (off n : ℕ) (old new : State) : Type 0 where
   pub same : new ≡ record old { device = record old.device { content = new.device.content; writes = bump old.device.writes; faults = new.device.faults } }
   pub torn : Torn off n old.device.content new.device.content
 
--- The records at or below the cut go into the base, and the others stay in their order, by one read and one write.
+-- The records at or below the cut go into the base, and the others stay in their order, by one read and one write. No
+-- number is due from then on, whether or not the region tells.
 pub record Merges (cuts : List ℕ) (old new : State) : Type 0 where
   pub means : (base : List ℕ) (records : List Logged) → Means old base records
       → (next : List ℕ) × Means new next (filter (is_past cuts) records) × IsValue cuts base records next
   pub less : new.used ≤ old.used
-  pub same : new ≡ record old { used = new.used; lowest = new.lowest; device = record (was_read old.device) { content = new.device.content; writes = bump old.device.writes } }
+  pub none_due : AreBelowEnd cuts → IsDue new.lowest cuts → ⊥
+  pub same : new ≡ record old {
+    used = new.used;
+    lowest = new.lowest;
+    device = record
+        (was_read old.device) { content = new.device.content; writes = bump old.device.writes };
+  }
 
 -- the read of a merge failed, or its write, which may have left any bytes in the place of the base and the log
 abbrev pub FailsMerge : (old new : State) → Type 0
@@ -63,7 +70,11 @@ pub record FailsCut (size : ℕ) (old new : State) : Type 0 where
   pub least : old.shape.block + size ≤ new.device.size
   pub most : new.device.size ≤ old.device.size
   pub front : option_map (take (old.shape.block + size)) new.device.content ≡ option_map (take (old.shape.block + size)) old.device.content
-  pub same : new ≡ record old { size = size; used = min old.used size; device = record old.device { size = new.device.size; content = new.device.content; faults = new.device.faults } }
+  pub same : new ≡ record old {
+    size = size;
+    used = min old.used size;
+    device = record old.device { size = new.device.size; content = new.device.content; faults = new.device.faults };
+  }
 
 -- the cut failed behind a merge where one was due
 pub record FailsCutBehind (cuts : List ℕ) (size : ℕ) (old new : State) : Type 0 where
@@ -79,5 +90,6 @@ pub record Same (old new : State) : Type 0 where
   pub shape : new.shape ≡ old.shape
   pub size : new.size ≡ old.size
   pub average : new.average ≡ old.average
+  pub length : new.device.size ≡ old.device.size
   pub never_fails : new.device.never_fails ≡ old.device.never_fails
   pub tells : is_some new.device.content ≡ is_some old.device.content

@@ -1,5 +1,6 @@
 -- What a parity column holds, said without its records: its value at the cut, and the updates in flight.
-use Rattle.std.specs.Prelude.{◌≡◌, ℕ, zero, suc, ◌+◌, ◌<◌, ◌≤◌, List, [], ◌∷◌, length, slice_index, slice_set, bit_xor, Bool, ◌&&◌, nat_eq, Option, Some, None, if◌then◌else◌}
+use Rattle.std.specs.Prelude.{◌≡◌, ℕ, zero, suc, ◌+◌, ◌<◌, ◌≤◌, List, [], ◌∷◌, length, slice_index, slice_set, bit_xor, Bool, ◌&&◌, nat_eq, Option, Some, None}
+use Rattle.std.specs.Prelude.{if◌then◌else◌}
 use Rattle.std.specs.List.{filter}
 use Rattle.cod_types.specs.Limits.{record_overhead, Shape}
 use Rattle.cod_types.specs.Overwritten.{byte_at}
@@ -7,21 +8,24 @@ use Rattle.cod_record.specs.Record.{range_byte}
 use Rattle.cod_parity.specs.Log.{change, is_past, Logged, text}
 use Rattle.cod_parity.specs.State.{Means, State}
 
--- a place in a block and the bytes there
+-- a place in a block, the bytes there, and how many bytes the text of their record has
 pub record Piece : Type 0 where
   pub off : ℕ
   pub bytes : List ℕ
+  pub length : ℕ
 
 -- a record of that block past the cut
 abbrev pub is_pending : (cuts : List ℕ) (j : ℕ) → Logged → Bool
 is_pending cuts j l = is_past cuts l && nat_eq l.whole.block j
 
--- the record of a piece: over zeros it has the piece's bytes, and its text isn't longer than a record of them may be
+-- The record of a piece: over zeros it has the piece's bytes, and its text is as long as the piece tells, no longer than a record
+-- of them may be.
 pub record IsPiece (g : Shape) (j number : ℕ) (p : Piece) (l : Logged) : Type 0 where
   pub in_block : l.whole.block ≡ j
   pub numbered : l.whole.number ≡ number
   pub bytes : (x : ℕ) → range_byte l.whole.ranges x ≡ byte_at x 0 p.off p.bytes
-  pub long : length (text l) ≤ record_overhead g.version + length p.bytes
+  pub long : length (text l) ≡ p.length
+  pub most : p.length ≤ record_overhead g.version + length p.bytes
 
 -- one record is all there is
 pub record IsLone (g : Shape) (j number : ℕ) (p : Piece) (records : List Logged) : Type 0 where
@@ -69,12 +73,12 @@ add_piece (Some p) value x = bit_xor (value x) (byte_at x 0 p.off p.bytes)
 abbrev pub raised_cut : (cuts : List ℕ) (j : ℕ) → List ℕ
 raised_cut cuts j = slice_set cuts j (slice_index cuts j + 1)
 
--- at most so many bytes has the record of a piece
-abbrev pub piece_room : Shape → Option Piece → ℕ
-piece_room g None = 0
-piece_room g (Some p) = record_overhead g.version + length p.bytes
+-- how many bytes the text of a piece's record has
+abbrev pub piece_length : Option Piece → ℕ
+piece_length None = 0
+piece_length (Some p) = p.length
 
--- and so many have those of the first n blocks together
-abbrev pub room_of : Shape → (pending : ℕ → Option Piece) (n : ℕ) → ℕ
-room_of g pending zero = 0
-room_of g pending (suc n) = room_of g pending n + piece_room g (pending n)
+-- and how many those of the first n blocks have together
+abbrev pub pieces_length : (pending : ℕ → Option Piece) (n : ℕ) → ℕ
+pieces_length pending zero = 0
+pieces_length pending (suc n) = pieces_length pending n + piece_length (pending n)

@@ -1,9 +1,10 @@
 -- The log behind a parity block: records of either version, and what they add to the block.
-use Rattle.std.specs.Prelude.{◌≡◌, ℕ, ◌+◌, ◌-◌, ◌<◌, ◌≤◌, ◌^◌, ◌==◌, ◌⊎◌, Bool, if◌then◌else◌, List, [], ◌∷◌, length, map, slice_index, slice_set, replicate, min, bit_xor, nat_lt}
+use Rattle.std.specs.Prelude.{◌≡◌, ℕ, ◌+◌, ◌-◌, ◌<◌, ◌≤◌, ◌^◌, ◌==◌, ◌⊎◌, Bool, if◌then◌else◌, List, [], ◌∷◌, length, map, slice_index, slice_set, replicate}
+use Rattle.std.specs.Prelude.{min, bit_xor, nat_lt}
 use Rattle.cod_field.specs.Field.{product}
 use Rattle.cod_record.specs.declared.parts.Head.{Head}
 use Rattle.cod_record.specs.Head.{head_record}
-use Rattle.cod_record.specs.Record.{IsRecord, range_byte, Record, record_text}
+use Rattle.cod_record.specs.Record.{AreInside, IsRecord, range_byte, Record, record_text}
 use Rattle.cod_record.specs.Sparse.{ranges_of, sparse_length, sparse_record}
 use Rattle.cod_types.specs.Limits.{Shape}
 
@@ -15,11 +16,11 @@ pub record Logged : Type 0 where
 unfoldable pub text : Logged → List ℕ
 text l = record_text l.version l.whole
 
--- the record is of one of the data blocks, and changes no byte behind a block's end
+-- the record is of one of the data blocks, and each of its ranges lies inside a block
 pub record IsIn (g : Shape) (l : Logged) : Type 0 where
   pub is : IsRecord l.version l.whole (text l)
   pub block : l.whole.block < g.k
-  pub inside : (x : ℕ) → g.block ≤ x → range_byte l.whole.ranges x ≡ 0
+  pub inside : AreInside g.block l.whole.ranges
 
 -- its number is past the cut of its block
 abbrev pub is_past : (cuts : List ℕ) → Logged → Bool
@@ -55,6 +56,10 @@ lowest_from low (l ∷ ls) = lowest_from (note low l) ls
 -- some block's least number is at or below its cut
 abbrev pub IsDue : (low cuts : List ℕ) → Type 0
 IsDue low cuts = (j : ℕ) × (j < 16) × (slice_index low j ≤ slice_index cuts j)
+
+-- no cut has reached its type's end
+abbrev pub AreBelowEnd : (cuts : List ℕ) → Type 0
+AreBelowEnd cuts = (j : ℕ) → j < 16 → slice_index cuts j < 2 ^ 64 - 1
 
 -- some record is at or below its cut
 abbrev pub IsIncluded : (cuts : List ℕ) → List Logged → Type 0

@@ -53,7 +53,13 @@ was_written off bytes d = record d { content = option_map (overwritten off bytes
 -- the column with one record more behind its log, by one write
 unfoldable pub with_record : Logged → State → State
 with_record l s =
-    record s { used = s.used + length (text l); appended = min (s.appended + length (text l)) (2 ^ 64 - 1); lowest = note s.lowest l; device = was_written (s.shape.block + s.used) (text l) s.device }
+    record s {
+      used = s.used + length (text l);
+      appended = min (s.appended + length (text l)) (2 ^ 64 - 1);
+      lowest = note s.lowest l;
+      device = was_written
+          (s.shape.block + s.used) (text l) s.device;
+    }
 
 -- the column with another base and no record, by one write
 unfoldable pub with_base : (base : List ℕ) → State → State
@@ -63,7 +69,15 @@ with_base base s = record s { used = 0; lowest = no_lowest; device = was_written
 unfoldable pub cut_to : (size : ℕ) → State → State
 cut_to size s =
     if nat_lt size s.size
-    then record s { size = size; used = min s.used size; device = record s.device { size = s.shape.block + size; content = option_map (take (s.shape.block + size)) s.device.content } }
+    then record s {
+      size = size;
+      used = min s.used size;
+      device = record s.device {
+        size = s.shape.block + size;
+        content = option_map (take
+            (s.shape.block + size)) s.device.content;
+      };
+    }
     else s
 
 -- the column at the begin of a tick that found this average

@@ -1,17 +1,19 @@
 //! A parity column over a region.
-ghost use Rattle.std.specs.Prelude.{◌≡◌, ◌+◌, ◌<◌, ◌≤◌, ◌^◌, ◌++◌, ◌∷◌, [], ℕ, List, Option, None, Some, MatchResult, OnOk, OnErr, IsOk, true, length, take, slice_index, bit_xor};
+ghost use Rattle.std.specs.Prelude.{◌≡◌, ◌+◌, ◌<◌, ◌≤◌, ◌^◌, ◌++◌, ◌∷◌, [], ℕ, List, Option, None, Some, MatchResult, OnOk, OnErr, IsOk, true, length, take};
+ghost use Rattle.std.specs.Prelude.{slice_index, bit_xor};
 ghost use Rattle.std.specs.List.{flat_map, filter};
 ghost use Rattle.std.specs.Option.{is_some};
 ghost use Rattle.cod_types.specs.Faults.{HasCause};
+ghost use Rattle.cod_region.specs.Device.{Reads};
 ghost use Rattle.cod_types.specs.Limits.{floor};
-ghost use Rattle.cod_parity.specs.Log.{change, IsDue, is_past, IsValue, Logged, logged, logged_length, scaled, text};
-ghost use Rattle.cod_parity.specs.State.{cut_to, empty, Means, with_base};
+ghost use Rattle.cod_parity.specs.Log.{AreBelowEnd, change, IsDue, is_past, IsValue, Logged, logged, logged_length, scaled, text};
+ghost use Rattle.cod_parity.specs.State.{cut_to, empty, IsKept, Means, with_base};
 ghost use Rattle.cod_parity.specs.Calls.{Appends, AppendsMerged, FailsAppendMerged, FailsCut, FailsMerge, FailsRead, FailsWrite, Merges, MergesIfDue, Same};
-ghost use Rattle.cod_parity.specs.Held.{HasValue, Holds, no_pieces, Piece, with_piece};
+ghost use Rattle.cod_parity.specs.Held.{HasValue, Holds, no_pieces, Piece, pieces_length, with_piece};
 
-use crate::bytes::scale;
 use crate::log::{add_log, any_due, fold_buffer};
-use crate::spelling::{text_len, write_text};
+use crate::spelling::{record_len, write_text};
+use cod_kernel::set_scaled;
 use cod_record::Head;
 use cod_region::Region;
 use cod_types::{Cuts, Failed, Geometry};
@@ -37,9 +39,18 @@ impl<R: Region> Model for ParityColumn<R> {
 
     ghost Value = { State };
 
-    ghost view = { λ c. record { shape = c.shape; size = c.size; used = c.used; appended = c.appended; average = c.average; lowest = c.lowest; device = R.device c.region } };
+    ghost view = { λ c. record {
+      shape = c.shape;
+      size = c.size;
+      used = c.used;
+      appended = c.appended;
+      average = c.average;
+      lowest = c.lowest;
+      device = R.device c.region;
+    } };
 
-    ghost invariant = { λ c. IsKept (record { shape = c.shape; size = c.size; used = c.used; appended = c.appended; average = c.average; lowest = c.lowest; device = R.device c.region }) };
+    ghost invariant = { λ c. IsKept
+        (record { shape = c.shape; size = c.size; used = c.used; appended = c.appended; average = c.average; lowest = c.lowest; device = R.device c.region }) };
 }
 
 impl<R: Region> ParityColumn<R> {
@@ -48,6 +59,7 @@ impl<R: Region> ParityColumn<R> {
         requires whole { (R.device region).size ≡ g.block + g.reserve }
         ensures is { result ≡ empty g g.reserve 10000 (R.device region) }
         ensures means { (held : List ℕ) → (R.device region).content ≡ Some held → Means result (take g.block held) [] }
+        ensures holds { (held : List ℕ) → (R.device region).content ≡ Some held → (cuts : List ℕ) → Holds result cuts (slice_index held) no_pieces }
     {
         ParityColumn::moved(g, region, g.reserve(), 10_000)
     }
@@ -61,6 +73,7 @@ impl<R: Region> ParityColumn<R> {
         requires whole { (R.device region).size ≡ g.block + size }
         ensures is { result ≡ empty g size average (R.device region) }
         ensures means { (held : List ℕ) → (R.device region).content ≡ Some held → Means result (take g.block held) [] }
+        ensures holds { (held : List ℕ) → (R.device region).content ≡ Some held → (cuts : List ℕ) → Holds result cuts (slice_index held) no_pieces }
     {
         let _columns = g.k(); // the limits of a geometry are told here
         ParityColumn {
@@ -72,6 +85,14 @@ impl<R: Region> ParityColumn<R> {
             lowest: [u64::MAX; 16],
             region,
         }
+    }
+
+    /// The geometry. What holds of the column's numbers is told with it.
+    pub fn geometry(&self) -> Geometry
+        ensures value { result ≡ self.now.shape }
+        ensures kept { IsKept self.now }
+    {
+        self.shape
     }
 
     /// The bytes of the reserved space.
@@ -131,7 +152,8 @@ impl<R: Region> ParityColumn<R> {
         requires inside { head.off + head.len ≤ self.old.shape.block }
         requires block { head.block < self.old.shape.k }
         requires fits { logged_length version head (scaled coef delta.now) ≤ self.old.size }
-        requires room { self.old.size < self.old.used + logged_length version head (scaled coef delta.now) → (base : List ℕ) (records : List Logged) → Means self.old base records
+        requires room { self.old.size < self.old.used + logged_length version head (scaled coef delta.now) → (base : List ℕ) (records : List Logged)
+            → Means self.old base records
             → length (flat_map text (filter (is_past cuts.now) records)) + logged_length version head (scaled coef delta.now) ≤ self.old.size }
         requires scratch { self.old.shape.block + self.old.shape.reserve ≤ length scratch.old }
         ensures adds { self.old.used + logged_length version head (scaled coef delta.now) ≤ self.old.size
@@ -140,14 +162,16 @@ impl<R: Region> ParityColumn<R> {
         ensures merges { self.old.size < self.old.used + logged_length version head (scaled coef delta.now)
             → MatchResult result (λ _. AppendsMerged cuts.now (logged version head (scaled coef delta.now)) self.old self.new)
             (λ _. FailsAppendMerged cuts.now (logged_length version head (scaled coef delta.now)) self.old self.new) }
-        ensures holds { (v : ℕ → ℕ) (p : ℕ → Option Piece) → Holds self.old cuts.now v p → p head.block ≡ None → head.number ≡ slice_index cuts.now head.block + 1
-            → OnOk result (Holds self.new cuts.now v (with_piece p head.block (record { off = head.off; bytes = scaled coef delta.now }))) }
+        ensures holds { (v : ℕ → ℕ) (p : ℕ → Option Piece) → Holds self.old cuts.now v p → p head.block ≡ None
+            → head.number ≡ slice_index cuts.now head.block + 1
+            → OnOk result (Holds self.new cuts.now v (with_piece p head.block
+            (record { off = head.off; bytes = scaled coef delta.now; length = logged_length version head (scaled coef delta.now) }))) }
         ensures same { Same self.old self.new }
         ensures cause { HasCause self.old.device.faults self.new.device.faults result }
         ensures sure { self.old.device.never_fails ≡ true → IsOk result }
     {
         let room = self.size - self.used;
-        let len = text_len_scaled(version, coef, delta, scratch);
+        let len = record_len(version, coef, delta);
         if len <= room {
             return self.write_record(head, version, coef, delta, scratch);
         }
@@ -163,6 +187,9 @@ impl<R: Region> ParityColumn<R> {
         ensures means { (base : List ℕ) (records : List Logged) → Means self.old base records
             → OnOk result ((next : List ℕ) × Means self.new next (filter (is_past cuts.now) records) × IsValue cuts.now base records next) }
         ensures holds { (v : ℕ → ℕ) (p : ℕ → Option Piece) → Holds self.old cuts.now v p → OnOk result (Holds self.new cuts.now v p) }
+        ensures used { (v : ℕ → ℕ) (p : ℕ → Option Piece) → Holds self.old cuts.now v p → OnOk result (self.new.used ≡ pieces_length p self.old.shape.k) }
+        ensures none_due { AreBelowEnd cuts.now → OnOk result (IsDue self.new.lowest cuts.now → ⊥) }
+        ensures kept { IsKept self.new }
         ensures same { Same self.old self.new }
         ensures cause { HasCause self.old.device.faults self.new.device.faults result }
         ensures sure { self.old.device.never_fails ≡ true → IsOk result }
@@ -203,13 +230,28 @@ impl<R: Region> ParityColumn<R> {
         Ok(())
     }
 
+    /// Brings the block and the log behind it into `into` as they are held, by one read. A read that fails may leave any bytes
+    /// in `into`.
+    pub fn copy_out(&mut self, into: &mut [u8]) -> Result<(), Failed>
+        requires { length into.old ≡ self.old.shape.block + self.old.used }
+        ensures bytes { OnOk result (Reads self.old.device.content 0 into.new) }
+        ensures whole { (base : List ℕ) (records : List Logged) → Means self.old base records → OnOk result (into.new ≡ base ++ flat_map text records) }
+        ensures holds { (cuts : List ℕ) (v : ℕ → ℕ) (p : ℕ → Option Piece) → Holds self.old cuts v p → Holds self.new cuts v p }
+        ensures same { FailsRead self.old self.new }
+        ensures cause { HasCause self.old.device.faults self.new.device.faults result }
+        ensures sure { self.old.device.never_fails ≡ true → IsOk result }
+    {
+        self.region.read_at(0, into)
+    }
+
     /// Replaces the block by these bytes, and with it all records, by one write. The bytes that were appended since the last
     /// tick stay counted.
     pub fn put(&mut self, base: &[u8]) -> Result<(), Failed>
         requires base { length base.now ≡ self.old.shape.block }
         ensures puts { MatchResult result (λ _. self.new ≡ with_base base.now self.old) (λ _. FailsWrite 0 (length base.now) self.old self.new) }
         ensures means { (was : List ℕ) (records : List Logged) → Means self.old was records → OnOk result (Means self.new base.now []) }
-        ensures holds { (was : List ℕ) (records : List Logged) → Means self.old was records → (cuts : List ℕ) → OnOk result (Holds self.new cuts (slice_index base.now) no_pieces) }
+        ensures holds { (was : List ℕ) (records : List Logged) → Means self.old was records → (cuts : List ℕ)
+            → OnOk result (Holds self.new cuts (slice_index base.now) no_pieces) }
         ensures same { Same self.old self.new }
         ensures cause { HasCause self.old.device.faults self.new.device.faults result }
         ensures sure { self.old.device.never_fails ≡ true → IsOk result }
@@ -223,7 +265,8 @@ impl<R: Region> ParityColumn<R> {
     /// Merges, and leaves room for so many bytes.
     fn make_room(&mut self, len: u32, cuts: &Cuts, scratch: &mut [u8]) -> Result<(), Failed>
         requires fits { len ≤ self.old.size }
-        requires room { (base : List ℕ) (records : List Logged) → Means self.old base records → length (flat_map text (filter (is_past cuts.now) records)) + len ≤ self.old.size }
+        requires room { (base : List ℕ) (records : List Logged) → Means self.old base records
+            → length (flat_map text (filter (is_past cuts.now) records)) + len ≤ self.old.size }
         requires scratch { self.old.shape.block + self.old.shape.reserve ≤ length scratch.old }
         ensures merges { MatchResult result (λ _. Merges cuts.now self.old self.new) (λ _. FailsMerge self.old self.new) }
         ensures room { OnOk result (self.new.used + len ≤ self.new.size) }
@@ -241,6 +284,7 @@ impl<R: Region> ParityColumn<R> {
     fn merge_now(&mut self, cuts: &Cuts, scratch: &mut [u8]) -> Result<(), Failed>
         requires scratch { self.old.shape.block + self.old.shape.reserve ≤ length scratch.old }
         ensures merges { MatchResult result (λ _. Merges cuts.now self.old self.new) (λ _. FailsMerge self.old self.new) }
+        ensures kept { IsKept self.new }
         ensures same { Same self.old self.new }
         ensures cause { HasCause self.old.device.faults self.new.device.faults result }
         ensures sure { self.old.device.never_fails ≡ true → IsOk result }
@@ -280,7 +324,7 @@ impl<R: Region> ParityColumn<R> {
     {
         let place = self.shape.block() + self.used;
         let (bytes, into) = scratch.split_at_mut(delta.len());
-        scale(coef, delta, bytes);
+        set_scaled(bytes, coef, delta);
         let len = write_text(version, head, bytes, into);
         self.region.write_at(place, &into[..len as usize])?;
         self.used += len;
@@ -295,7 +339,10 @@ impl<R: Region> ParityColumn<R> {
         requires least { floor self.old.shape ≤ size }
         requires most { size ≤ self.old.size }
         ensures cuts { MatchResult result (λ cut. (cut + size ≡ self.old.size) × (self.new ≡ cut_to size self.old)) (λ _. FailsCut size self.old self.new) }
-        ensures kept { (self.new.shape ≡ self.old.shape) × (self.new.average ≡ self.old.average) × (self.new.device.never_fails ≡ self.old.device.never_fails) × (is_some self.new.device.content ≡ is_some self.old.device.content) }
+        ensures kept { IsKept self.new }
+        ensures shorter { self.new.device.size ≤ self.old.device.size }
+        ensures same { (self.new.shape ≡ self.old.shape) × (self.new.average ≡ self.old.average) × (self.new.device.never_fails ≡ self.old.device.never_fails)
+            × (is_some self.new.device.content ≡ is_some self.old.device.content) }
         ensures cause { HasCause self.old.device.faults self.new.device.faults result }
         ensures sure { self.old.device.never_fails ≡ true → IsOk result }
     {
@@ -308,16 +355,4 @@ impl<R: Region> ParityColumn<R> {
         }
         Ok(before - size)
     }
-}
-
-/// How many bytes the text has of a record of the coefficient times the delta.
-fn text_len_scaled(version: u8, coef: u8, delta: &[u8], scratch: &mut [u8]) -> u32
-    requires most { length delta.now ≤ 2 ^ 20 }
-    requires short { version ≡ 2 → length delta.now ≤ 65536 }
-    requires scratch { length delta.now ≤ length scratch.old }
-    ensures { (h : Head) → result ≡ logged_length version h (scaled coef delta.now) }
-{
-    let bytes = &mut scratch[..delta.len()];
-    scale(coef, delta, bytes);
-    text_len(version, bytes)
 }

@@ -1,5 +1,7 @@
 //! The laws of what a parity column holds.
-ghost use Rattle.cod_parity.specs.Laws.{DueWhereIncluded, HeldAgain, HeldRoom, OneMeaning, OneValue, PiecesFit, RaisedCut, RaisedCuts, RecordFits};
+ghost use Rattle.cod_parity.specs.Laws.{AppendedLength, DueByLength, DueOrNot, DueWhenCommitted, DueWhereIncluded, HeldAgain, HeldElsewhere, HeldLength};
+ghost use Rattle.cod_parity.specs.Laws.{MergedLength};
+ghost use Rattle.cod_parity.specs.Laws.{OneMeaning, OneValue, PieceMost, PiecesFit, RaisedCut, RaisedCuts, RecordFits};
 
 /// What a column's state means is one base and one list of records.
 pub fn one_meaning()
@@ -31,9 +33,44 @@ pub fn held_again()
     ensures { HeldAgain }
 {}
 
-/// The records past the cut have no more bytes than the pieces may take.
-pub fn held_room()
-    ensures { HeldRoom }
+/// What is held is told by the geometry, the bytes in use, the least numbers and the region's content alone.
+pub fn held_elsewhere()
+    ensures { HeldElsewhere }
+{}
+
+/// The records past the cut have just the bytes that the pieces tell.
+pub fn held_length()
+    ensures { HeldLength }
+{}
+
+/// After a merge those are all the bytes in use.
+pub fn merged_length()
+    ensures { MergedLength }
+{}
+
+/// And after an append that merges they are, with the record's own.
+pub fn appended_length()
+    ensures { AppendedLength }
+{}
+
+/// A merge is due exactly where there are more bytes in use than the pieces tell.
+pub fn due_by_length()
+    ensures { DueByLength }
+{}
+
+/// So where nothing is in flight, it is due exactly where there is a record.
+pub fn due_when_committed()
+    ensures { DueWhenCommitted }
+{}
+
+/// Whether a number is due is decided.
+pub fn due_or_not()
+    ensures { DueOrNot }
+{}
+
+/// A piece's record isn't longer than a record of its bytes may be.
+pub fn piece_most()
+    ensures { PieceMost }
 {}
 
 /// One piece for each block at most, each of at most an update's bytes, take no more than the floor. So a tick keeps what

@@ -5,7 +5,6 @@
 //! where its number is at or below the cut of its data block, and is in flight where it is past it.
 #![tactic(auto)]
 
-mod bytes;
 mod column;
 pub mod laws;
 mod log;
@@ -13,6 +12,5 @@ mod spelling;
 mod tick;
 
 pub use column::ParityColumn;
-
-#[cfg(test)]
-mod tests;
+pub use log::{add_log, add_record};
+pub use spelling::record_len;

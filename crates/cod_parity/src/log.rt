@@ -6,7 +6,7 @@ ghost use Rattle.cod_record.specs.Record.{IsRecord, range_byte};
 ghost use Rattle.cod_types.specs.Limits.{Shape};
 ghost use Rattle.cod_parity.specs.Log.{change, IsDue, IsIn, is_past, IsValue, Logged, lowest_from, no_lowest, share, text};
 
-use crate::bytes::{add_window, move_down};
+use cod_kernel::add_window;
 use cod_record::{Found, read_any, record_spans};
 use cod_types::Cuts;
 
@@ -37,7 +37,7 @@ fn next_record(bytes: &[u8]) -> Option<(Found, usize)>
 }
 
 /// Adds to a window, whose first byte stands at place `off`, what falls into it of the record that begins the text.
-fn add_record(window: &mut [u8], off: usize, from: &[u8])
+pub fn add_record(window: &mut [u8], off: usize, from: &[u8])
     requires begins { BeginsRecord from.now }
     requires fits { off + length window.old < 2 ^ 64 }
     ensures { (l : Logged) (rest : List ℕ) → IsRecord l.version l.whole (text l) → from.now ≡ text l ++ rest
@@ -92,10 +92,23 @@ fn fold_one(
     to + len
 }
 
+/// Moves the bytes of a text that stands at `from` down to `to`.
+fn move_down(log: &mut [u8], to: usize, from: usize, len: usize)
+    requires down { to ≤ from }
+    requires inside { from + len ≤ length log.old }
+    ensures front { take (to + len) log.new ≡ take to log.old ++ take len (drop from log.old) }
+    ensures rest { drop (from + len) log.new ≡ drop (from + len) log.old }
+{
+    for i in 0..len {
+        log[to + i] = log[from + i];
+    }
+}
+
 /// Notes the record's number where it is past the cut.
 fn note_one(lowest: &mut [u64; 16], found: Found, cuts: &Cuts)
     requires { found.block < 16 }
-    ensures { (l : Logged) → found ≡ found_of l.version l.whole → lowest.new ≡ lowest_from lowest.old (filter (is_past cuts.now) (l ∷ [])) }
+    ensures noted { (l : Logged) → found ≡ found_of l.version l.whole → lowest.new ≡ lowest_from lowest.old (filter (is_past cuts.now) (l ∷ [])) }
+    ensures due { IsDue lowest.new cuts.now → IsDue lowest.old cuts.now }
 {
     if !is_included(found, cuts) {
         let block = found.block as usize;
@@ -107,6 +120,7 @@ fn note_one(lowest: &mut [u64; 16], found: Found, cuts: &Cuts)
 /// and the least number of each block's.
 fn fold(base: &mut [u8], log: &mut [u8], cuts: &Cuts) -> (usize, [u64; 16])
     ensures least { result.0 ≤ length log.old }
+    ensures due { IsDue result.1 cuts.now → IsDue no_lowest cuts.now }
     ensures lowest { (g : Shape) (records : List Logged) → g.k ≤ 16 → AllByRecursion (IsIn g) records → log.old ≡ flat_map text records
         → result.1 ≡ lowest_from no_lowest (filter (is_past cuts.now) records) }
     ensures kept { (g : Shape) (records : List Logged) → g.k ≤ 16 → AllByRecursion (IsIn g) records → log.old ≡ flat_map text records
@@ -129,10 +143,14 @@ fn fold(base: &mut [u8], log: &mut [u8], cuts: &Cuts) -> (usize, [u64; 16])
 pub fn fold_buffer(buffer: &mut [u8], block: usize, cuts: &Cuts) -> (usize, [u64; 16])
     requires { block ≤ length buffer.old }
     ensures most { block + result.0 ≤ length buffer.old }
-    ensures lowest { (g : Shape) (base : List ℕ) (records : List Logged) → g.k ≤ 16 → g.block ≡ block → length base ≡ block → AllByRecursion (IsIn g) records → buffer.old ≡ base ++ flat_map text records
+    ensures due { IsDue result.1 cuts.now → IsDue no_lowest cuts.now }
+    ensures lowest { (g : Shape) (base : List ℕ) (records : List Logged) → g.k ≤ 16 → g.block ≡ block → length base ≡ block → AllByRecursion (IsIn g) records
+        → buffer.old ≡ base ++ flat_map text records
         → result.1 ≡ lowest_from no_lowest (filter (is_past cuts.now) records) }
-    ensures meaning { (g : Shape) (base : List ℕ) (records : List Logged) → g.k ≤ 16 → g.block ≡ block → length base ≡ block → AllByRecursion (IsIn g) records → buffer.old ≡ base ++ flat_map text records
-        → (next : List ℕ) × (take (block + result.0) buffer.new ≡ next ++ flat_map text (filter (is_past cuts.now) records)) × IsValue cuts.now base records next }
+    ensures meaning { (g : Shape) (base : List ℕ) (records : List Logged) → g.k ≤ 16 → g.block ≡ block → length base ≡ block → AllByRecursion (IsIn g) records
+        → buffer.old ≡ base ++ flat_map text records
+        → (next : List ℕ) × (take (block + result.0) buffer.new ≡ next ++ flat_map text (filter (is_past cuts.now) records))
+        × IsValue cuts.now base records next }
 {
     let (base, log) = buffer.split_at_mut(block);
     fold(base, log, cuts)

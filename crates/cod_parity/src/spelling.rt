@@ -2,12 +2,15 @@
 ghost use Rattle.std.specs.Prelude.{◌≡◌, ◌+◌, ◌<◌, ◌≤◌, ◌^◌, ◌++◌, length, take};
 ghost use Rattle.cod_record.specs.declared.parts.Head.{Head};
 ghost use Rattle.cod_record.specs.Record.{IsRecord};
-ghost use Rattle.cod_parity.specs.Log.{logged, logged_length, text};
+ghost use Rattle.cod_parity.specs.Log.{logged, logged_length, scaled, text};
 
 use cod_record::{Head, sparse_len, write_head, write_sparse};
 
+/// The bytes of a record of the second version that changes nothing.
+const EMPTY_LEN: u32 = 13;
+
 /// How many bytes the text has of a record of these bytes, whatever their place.
-pub fn text_len(version: u8, bytes: &[u8]) -> u32
+fn text_len(version: u8, bytes: &[u8]) -> u32
     requires most { length bytes.now ≤ 2 ^ 20 }
     requires short { version ≡ 2 → length bytes.now ≤ 65536 }
     ensures { (h : Head) → result ≡ logged_length version h bytes.now }
@@ -16,6 +19,19 @@ pub fn text_len(version: u8, bytes: &[u8]) -> u32
         return sparse_len(bytes);
     }
     19 + bytes.len() as u32
+}
+
+/// How many bytes the text of the record of an update has, whose bytes are the coefficient times the delta. A coefficient
+/// that isn't 0 leaves zeros where the delta has them, so nothing is scaled for it.
+pub fn record_len(version: u8, coef: u8, delta: &[u8]) -> u32
+    requires most { length delta.now ≤ 2 ^ 20 }
+    requires short { version ≡ 2 → length delta.now ≤ 65536 }
+    ensures { (h : Head) → result ≡ logged_length version h (scaled coef delta.now) }
+{
+    if version == 2 && coef == 0 {
+        return EMPTY_LEN;
+    }
+    text_len(version, delta)
 }
 
 /// Writes the text of the record of these bytes to the front, and answers its length.

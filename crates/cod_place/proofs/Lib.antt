@@ -1,5 +1,9 @@
+pub mod Accounts
+pub mod Badges
+pub mod Closed
 pub mod Faults
 pub mod Firsts
-pub mod Homes
+pub mod Keeps
+pub mod Looking
 pub mod Rooms
 pub mod Searching

@@ -1,4 +1,7 @@
-pub mod Home
+pub mod Closed
+pub mod Free
+pub mod Room
 pub mod Rooms
+pub mod Seats
 pub mod Spares
 pub mod Stores

@@ -1,9 +1,10 @@
 //! The choice of a spare node.
-ghost use Rattle.std.specs.Prelude.{◌≡◌, ◌<◌, ◌≤◌, ℕ, List, ◌∷◌, Some, None, length, All, IfSome, IfNone, IfErr, IfOk, IsTrue, MatchOption, MatchResult, option_map, slice_index, slice_set};
+ghost use Rattle.std.specs.Prelude.{◌≡◌, ◌<◌, ◌≤◌, ℕ, List, ◌∷◌, Some, None, length, All, IfSome, IfNone, IfErr, IfOk, IsTrue, MatchOption, MatchResult};
+ghost use Rattle.std.specs.Prelude.{option_map, slice_index, slice_set};
 ghost use Rattle.cod_board.specs.Kills.{Keeps, kill_of};
 ghost use Rattle.cod_place.specs.Rooms.{lowered};
 ghost use Rattle.cod_place.specs.Spares.{IsSpare, Refuses, candidates, fault_of, is_in, nodes_of};
-ghost use Rattle.cod_place.specs.declared.room.Room.{Room};
+ghost use Rattle.cod_place.specs.Room.{Room};
 ghost use Rattle.cod_types.specs.declared.reasons.Reason.{Reason};
 
 use crate::{Broken, Pools, Room, Short};
@@ -30,9 +31,13 @@ pub fn spare<B: Board, P: Pools>(
     requires board_ready { B.ready board.old }
     requires pools { P.nodes pools.old ≡ nodes }
     requires pools_ready { P.ready pools.old }
-    ensures found { IfSome result (λ r. (r.bytes ≡ need) × IsSpare broken.now (B.kills board.new) (candidates after.0 taken nodes) reasons.new r.node.0 × All (λ (passed : Reason). Refuses need broken.now (B.kills board.new) (λ x n. (p : _) × P.same pools.old p × P.Seen pools.old p x n) passed.node.0 passed.why) reasons.new) }
-    ensures none { IfNone result ((nodes_of reasons.new ≡ candidates after.0 taken nodes) × All (λ (passed : Reason). Refuses need broken.now (B.kills board.new) (P.Seen pools.old pools.new) passed.node.0 passed.why) reasons.new) }
-    ensures told { (f : List ℕ) → P.free pools.old ≡ Some f → IfSome result (λ r. need ≤ slice_index f r.node.0) × All (λ (passed : Reason). Refuses need broken.now (B.kills board.new) (λ x n. n ≡ slice_index f x) passed.node.0 passed.why) reasons.new }
+    ensures found { IfSome result (λ r. (r.bytes ≡ need) × IsSpare broken.now (B.kills board.new) (candidates after.0 taken nodes) reasons.new r.node.0
+        × All (λ (passed : Reason). Refuses need broken.now (B.kills board.new)
+        (λ x n. (p : _) × P.same pools.old p × P.Seen pools.old p x n) passed.node.0 passed.why) reasons.new) }
+    ensures none { IfNone result ((nodes_of reasons.new ≡ candidates after.0 taken nodes)
+        × All (λ (passed : Reason). Refuses need broken.now (B.kills board.new) (P.Seen pools.old pools.new) passed.node.0 passed.why) reasons.new) }
+    ensures told { (f : List ℕ) → P.free pools.old ≡ Some f → IfSome result (λ r. need ≤ slice_index f r.node.0)
+        × All (λ (passed : Reason). Refuses need broken.now (B.kills board.new) (λ x n. n ≡ slice_index f x) passed.node.0 passed.why) reasons.new }
     ensures keeps { Keeps (B.kills board.old) (B.kills board.new) }
     ensures alone { IsTrue B.is_alone → B.kills board.new ≡ B.kills board.old }
     ensures board { (length (B.kills board.new) ≡ nodes) × B.ready board.new × B.same board.old board.new }
@@ -77,7 +82,8 @@ fn room_on<B: Board, P: Pools>(
     requires pools_ready { P.ready pools.old }
     ensures room { IfOk result (λ r. (r.node ≡ node) × (r.bytes ≡ need) × (fault_of broken.now node.0 ≡ None) × (kill_of (B.kills board.new) node.0 ≡ None)) }
     ensures reason { IfErr result (λ why. Refuses need broken.now (B.kills board.new) (P.Seen pools.old pools.new) node.0 why) }
-    ensures told { (f : List ℕ) → P.free pools.old ≡ Some f → MatchResult result (λ _. need ≤ slice_index f node.0) (λ why. Refuses need broken.now (B.kills board.new) (λ x n. n ≡ slice_index f x) node.0 why) }
+    ensures told { (f : List ℕ) → P.free pools.old ≡ Some f → MatchResult result (λ _. need ≤ slice_index f node.0)
+        (λ why. Refuses need broken.now (B.kills board.new) (λ x n. n ≡ slice_index f x) node.0 why) }
     ensures learned { B.kills board.new ≡ slice_set (B.kills board.old) node.0 (kill_of (B.kills board.new) node.0) }
     ensures keeps { Keeps (B.kills board.old) (B.kills board.new) }
     ensures alone { IsTrue B.is_alone → B.kills board.new ≡ B.kills board.old }

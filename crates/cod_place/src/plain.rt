@@ -10,8 +10,8 @@ use std::marker::Model;
 /// Pools that nobody shares, seen as their capacity and the free bytes of each node.
 #[derive(Debug, Drop)]
 pub struct PlainPools {
-    capacity: u32,
-    free: Vec<u32>,
+    pub(crate) capacity: u32,
+    pub(crate) free: Vec<u32>,
 }
 
 impl Model for PlainPools {
@@ -22,7 +22,8 @@ impl Model for PlainPools {
 
     ghost view = { λ p. record { capacity = p.capacity; free = p.free.items } };
 
-    ghost invariant = { λ p. (node : ℕ) → node < length p.free.items → slice_index p.free.items node ≤ p.capacity };
+    ghost invariant = { λ p. (1 ≤ length p.free.items) × (length p.free.items ≤ 64)
+        × ((node : ℕ) → node < length p.free.items → slice_index p.free.items node ≤ p.capacity) };
 }
 
 impl PlainPools {
@@ -73,7 +74,7 @@ impl Pools for PlainPools {
             return Err(Short { free });
         }
         self.free[node.0 as usize] = free - bytes;
-        Ok(Room { node, bytes })
+        Ok(Room::plain(node, bytes))
     }
 
     fn trim(&mut self, room: &mut Room, bytes: u32) {

@@ -1,8 +1,9 @@
 //! What all pools keep to.
-ghost use Rattle.std.specs.Prelude.{◌≡◌, ◌-◌, ◌<◌, ◌≤◌, ℕ, List, [], ◌∷◌, ◌++◌, Option, Some, length, IfOk, IfErr, MatchResult, IsPermutation, option_map, slice_index};
+ghost use Rattle.std.specs.Prelude.{◌≡◌, ◌-◌, ◌<◌, ◌≤◌, ℕ, List, [], ◌∷◌, ◌++◌, Option, Some, length, IfOk, IfErr, MatchResult, IsPermutation, option_map};
+ghost use Rattle.std.specs.Prelude.{slice_index};
 ghost use Rattle.std.specs.Option.{is_some};
 ghost use Rattle.cod_place.specs.Rooms.{lowered, raised};
-ghost use Rattle.cod_place.specs.declared.room.Room.{Room};
+ghost use Rattle.cod_place.specs.Room.{Room};
 
 use crate::Room;
 use cod_types::NodeId;

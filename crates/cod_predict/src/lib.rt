@@ -9,6 +9,3 @@ mod shrink;
 pub use policy::{Policy, Rule};
 pub use rules::{Newest, Weighted};
 pub use shrink::target;
-
-#[cfg(test)]
-mod tests;

@@ -1,7 +1,7 @@
 -- What a sink took, one piece after another.
-use Rattle.std.proofs.Common.{subst, ◌≡◌, ◌++◌, List, [], ◌∷◌, ℕ, Option, Some, None, Result, Ok, Err, refl, sym, ap, ◌∙◌, append_assoc, ◌+◌, ◌<◌, length, map, take, drop, get_or, ◌/◌, ◌%◌, arith}
+use Rattle.std.proofs.Common.{subst, ◌≡◌, ◌++◌, List, [], ◌∷◌, ℕ, Option, Some, None, Result, Ok, Err, refl, sym, ap, ◌∙◌, append_assoc, ◌+◌, ◌<◌, length, take, drop, get_or, ◌/◌, ◌%◌}
 use Rattle.std.specs.Io.KnownBytes.{append_known}
-use Rattle.std.specs.Prelude.{slice_index, codes, decimal, Bool, true, false}
+use Rattle.std.specs.Prelude.{slice_index, codes, decimal, true, false}
 use Rattle.std.specs.List.{flat_map}
 use Rattle.std.proofs.lemmas.List.{append-nil, take-append-drop, drop_more}
 use Rattle.std.proofs.lemmas.List.Concat.{flat_map-append}

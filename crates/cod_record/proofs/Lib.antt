@@ -1,10 +1,12 @@
 pub mod Bytes
 pub mod Heads
+pub mod Inside
 pub mod Lengths
 pub mod Places
 pub mod Ranges
 pub mod Reading_back
 pub mod Spanning
+pub mod Same_places
 pub mod Sparse_texts
 pub mod Splitting
 pub mod Texts

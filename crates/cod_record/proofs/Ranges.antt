@@ -42,7 +42,8 @@ same_off g h gs hs isg ish areg areh same =
       ]
     ]
 
-same_length : (g h : Range) (gs hs : List Range) → IsSparseRange g → IsSparseRange h → AreSparse (end_of g + 8) gs → AreSparse (end_of h + 8) hs → Same (g ∷ gs) (h ∷ hs) → g.off ≡ h.off → length g.bytes ≡ length h.bytes
+same_length : (g h : Range) (gs hs : List Range) → IsSparseRange g → IsSparseRange h → AreSparse (end_of g + 8) gs → AreSparse (end_of h + 8) hs → Same (g ∷ gs) (h ∷ hs) → g.off ≡ h.off
+    → length g.bytes ≡ length h.bytes
 same_length g h gs hs isg ish areg areh same off =
     elim (cases_lt (length g.bytes) (length h.bytes)) [
       | inl low ↦ absurd (not_shorter g h gs hs areg ish same off low)

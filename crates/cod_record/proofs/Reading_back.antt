@@ -1,5 +1,6 @@
 -- Records of the second version, read range by range.
-use Rattle.std.proofs.Common.{◌≡◌, ℕ, suc, ◌+◌, ◌-◌, ◌<◌, ◌≤◌, ◌^◌, List, [], ◌∷◌, ◌++◌, length, take, drop, get_or, refl, sym, ap, ◌∙◌, arith, inr, subst, length-append, length-drop, Result, Ok, Err, IfOk, OnErr}
+use Rattle.std.proofs.Common.{◌≡◌, ℕ, suc, ◌+◌, ◌-◌, ◌<◌, ◌≤◌, ◌^◌, List, [], ◌∷◌, ◌++◌, length, take, drop, get_or, refl, sym, ap, ◌∙◌, arith, inr, subst, length-append, length-drop, Result, Ok, Err}
+use Rattle.std.proofs.Common.{IfOk, OnErr}
 use Rattle.std.proofs.Math.Seq.{take-add}
 use Rattle.std.proofs.lemmas.List.{append_assoc, take_at, drop_at, drop-drop, take-append-drop, length-take, length-take-le}
 use Rattle.byteorder.specs.Endian.{big_bytes, big_number}
@@ -62,7 +63,8 @@ heads text from g is =
     let rest : List ℕ = drop (8 + length g.bytes) text in
     let b1 : List ℕ = big_bytes 4 g.off in
     let b2 : List ℕ = big_bytes 4 (length g.bytes) in
-    let whole : text ≡ b1 ++ (b2 ++ (g.bytes ++ rest)) = front_of (8 + length g.bytes) text (range_text g) is.text_is ∙ append_assoc b1 (b2 ++ g.bytes) rest ∙ ap (λ (l : List ℕ). b1 ++ l) (append_assoc b2 g.bytes rest) in
+    let whole : text ≡ b1 ++ (b2 ++ (g.bytes ++ rest)) = front_of (8 + length g.bytes) text (range_text g) is.text_is ∙ append_assoc b1 (b2 ++ g.bytes) rest
+    ∙ ap (λ (l : List ℕ). b1 ++ l) (append_assoc b2 g.bytes rest) in
     let four : drop 4 text ≡ b2 ++ (g.bytes ++ rest) = ap (drop 4) whole ∙ drop_at b1 (b2 ++ (g.bytes ++ rest)) 4 (length-bytes_high_first 4 g.off) in
     let eight : drop 8 text ≡ g.bytes ++ rest = sym (drop-drop 4 4 text) ∙ ap (drop 4) four ∙ drop_at b2 (g.bytes ++ rest) 4 (length-bytes_high_first 4 (length g.bytes)) in
     record {
@@ -129,12 +131,21 @@ split text from k [] is = absurd (omega (arith, is.count))
 split text from k (g ∷ gs) is =
     let n = 8 + length g.bytes in
     let both : take n text ++ take (ranges_length gs) (drop n text) ≡ range_text g ++ ranges_text gs = sym (take-add n (ranges_length gs) text) ∙ is.text_is in
-    let room : n ≤ length text = omega (arith, ap length is.text_is, length-take (ranges_length (g ∷ gs)) text, length-append (range_text g) (ranges_text gs), length-range_text g, length-ranges_text gs) in
+    let room : n ≤ length text = omega (
+      arith,
+      ap length is.text_is,
+      length-take (ranges_length (g ∷ gs)) text,
+      length-append (range_text g) (ranges_text gs),
+      length-range_text g,
+      length-ranges_text gs,
+    ) in
     let len : length (take n text) ≡ length (range_text g) = length-take-le n text room ∙ sym (length-range_text g) in
     let front : take n text ≡ range_text g =
-    sym (take_at (take n text) (take (ranges_length gs) (drop n text)) (length (take n text)) refl) ∙ ap (take (length (take n text))) both ∙ take_at (range_text g) (ranges_text gs) (length (take n text)) (sym len) in
+    sym (take_at (take n text) (take (ranges_length gs) (drop n text)) (length (take n text)) refl) ∙ ap (take (length (take n text))) both
+    ∙ take_at (range_text g) (ranges_text gs) (length (take n text)) (sym len) in
     let behind : take (ranges_length gs) (drop n text) ≡ ranges_text gs =
-    sym (drop_at (take n text) (take (ranges_length gs) (drop n text)) (length (take n text)) refl) ∙ ap (drop (length (take n text))) both ∙ drop_at (range_text g) (ranges_text gs) (length (take n text)) (sym len) in
+    sym (drop_at (take n text) (take (ranges_length gs) (drop n text)) (length (take n text)) refl) ∙ ap (drop (length (take n text))) both
+    ∙ drop_at (range_text g) (ranges_text gs) (length (take n text)) (sym len) in
     record {
       first = g;
       others = gs;

@@ -13,7 +13,8 @@ OneRecord = (version other : ℕ) (r s : Record) (text text2 rest rest2 : List �
 
 -- a head's text and as many bytes as it tells are a record's text
 abbrev pub HeadBeginsRecord : Type 0
-HeadBeginsRecord = (h : Head) (bytes : List ℕ) → InRange h → 19 + h.len < 2 ^ 32 → length bytes ≡ h.len → IsRecord 1 (head_record h bytes) (head_text h ++ bytes)
+HeadBeginsRecord = (h : Head) (bytes : List ℕ) → InRange h → 19 + h.len < 2 ^ 32 → length bytes ≡ h.len
+    → IsRecord 1 (head_record h bytes) (head_text h ++ bytes)
 
 -- ranges that have the same byte at each place are the same ranges
 abbrev pub OneSparseText : Type 0

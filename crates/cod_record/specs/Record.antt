@@ -1,6 +1,6 @@
 -- A record: the text of an update of a block, as ranges of bytes with their places in the block.
 use Rattle.std.specs.Prelude.{◌≡◌, ◌≢◌, ◌⊎◌, ℕ, ◌+◌, ◌-◌, ◌<◌, ◌≤◌, ◌^◌, ◌==◌, if◌then◌else◌, List, [], ◌∷◌, ◌++◌, length, slice_index, ⊤}
-use Rattle.std.specs.List.{flat_map}
+use Rattle.std.specs.List.{flat_map, AllByRecursion}
 use Rattle.byteorder.specs.Endian.{big_bytes}
 use Rattle.cod_types.specs.Overwritten.{byte_at}
 
@@ -71,6 +71,10 @@ pub record IsRecord (version : ℕ) (r : Record) (text : List ℕ) : Type 0 wher
   pub count : length r.ranges < 2 ^ 16
   pub size : length text < 2 ^ 32
   pub text_is : text ≡ record_text version r
+
+-- each range ends at this place or before
+abbrev pub AreInside : (end : ℕ) → List Range → Type 0
+AreInside end ranges = AllByRecursion (λ range. end_of range ≤ end) ranges
 
 -- the byte at place x, where ranges are written over zeros
 abbrev pub range_byte : List Range → (x : ℕ) → ℕ

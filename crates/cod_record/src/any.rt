@@ -20,7 +20,8 @@ struct RangeHead {
 pub fn read_any(from: &[u8]) -> Result<(Found, u32), NotARecord>
     ensures found { IfOk result (λ found. IsFound found.0 found.1 from.now) }
     // The record that begins the text is the one that is answered.
-    ensures only { (version : ℕ) (r : Record) (n : ℕ) → IsRecord version r (take n from.now) → result ≡ Ok (found_of version r, length (record_text version r)) }
+    ensures only { (version : ℕ) (r : Record) (n : ℕ) → IsRecord version r (take n from.now)
+        → result ≡ Ok (found_of version r, length (record_text version r)) }
     ensures none { OnErr result ((version : ℕ) (r : Record) (n : ℕ) → IsRecord version r (take n from.now) → ⊥) }
 {
     if !from.is_empty() && from[0] == 2 {

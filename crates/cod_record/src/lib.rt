@@ -15,6 +15,3 @@ pub use laws::{head_begins_record, one_record, one_sparse_text, sparse_ranges};
 pub use parts::{Found, Head, NotARecord, Span};
 pub use spans::{Spans, record_spans};
 pub use sparse::{sparse_len, write_sparse};
-
-#[cfg(test)]
-mod tests;

@@ -27,7 +27,9 @@ pub fn range_end(bytes: &[u8], start: usize) -> usize
     requires some { slice_index bytes.now start ≢ 0 }
     ensures low { start < result }
     ensures high { result ≤ length bytes.now }
-    ensures first { (off : ℕ) → ranges_of (off + start) (drop start bytes.now) ≡ range (off + start) (take (result - start) (drop start bytes.now)) ∷ ranges_of (off + result) (drop result bytes.now) }
+    ensures first { (off : ℕ)
+        → ranges_of (off + start) (drop start bytes.now) ≡ range (off + start) (take (result - start) (drop start bytes.now)) ∷ ranges_of (off + result)
+        (drop result bytes.now) }
 {
     let mut last = start;
     'bytes: loop {

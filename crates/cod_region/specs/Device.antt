@@ -1,6 +1,7 @@
 -- What there is to say of a region, whatever its type.
 use Rattle.std.specs.Prelude.{◌≡◌, ℕ, Bool, List, length, take, drop, replicate, Option, Some, None, ⊤}
 use Rattle.cod_types.specs.Overwritten.{ChangesWithin}
+use Rattle.cod_types.specs.declared.call.NodeId.{NodeId}
 
 -- A region: how many bytes it has, which, where it tells them, how many reads, writes and faults there were, each up to
 -- the end of its type, and whether it never fails.
@@ -11,6 +12,11 @@ pub record Device : Type 0 where
   pub writes : ℕ
   pub faults : ℕ
   pub never_fails : Bool
+
+-- What holds of every region of a shelf: whether it tells what it holds, and on which nodes it never fails.
+pub record AllRegions : Type 0 where
+  pub tell : Bool
+  pub never_fail : NodeId → Bool
 
 -- where the content is told, these are its bytes from off on
 abbrev pub Reads : (content : Option (List ℕ)) (off : ℕ) (bytes : List ℕ) → Type 0

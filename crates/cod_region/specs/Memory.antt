@@ -26,7 +26,15 @@ pub record Flawed : Type 0 where
 -- it never fails where no call is listed
 abbrev pub flawed_device : Flawed → Device
 flawed_device f =
-    record { size = length f.held.bytes; content = Some f.held.bytes; reads = f.held.reads; writes = f.held.writes; faults = f.faults; never_fails = (length f.fails == 0) && (f.faults == 0) }
+    record {
+      size = length f.held.bytes;
+      content = Some f.held.bytes;
+      reads = f.held.reads;
+      writes = f.held.writes;
+      faults = f.faults;
+      never_fails =
+          (length f.fails == 0) && (f.faults == 0);
+    }
 
 -- whether the next call is to fail
 abbrev pub is_due : Flawed → Bool

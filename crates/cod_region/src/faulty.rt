@@ -1,5 +1,6 @@
 //! Regions in memory that fail at the calls that they are told to.
-ghost use Rattle.std.specs.Prelude.{◌≡◌, ◌==◌, ◌+◌, ◌<◌, ◌≤◌, ◌↔◌, length, take, drop, replicate, refl, IfOk, OnErr, OnOk, IsErr, IsTrue};
+ghost use Rattle.std.specs.Prelude.{◌≡◌, ◌==◌, ◌+◌, ◌<◌, ◌≤◌, ◌↔◌, length, take, drop, replicate, refl, true, nat_eq, IfOk, OnErr, OnOk, IsErr, IsTrue};
+ghost use Rattle.std.specs.List.{list_any};
 ghost use Rattle.cod_types.specs.Faults.{bump, HasCause};
 ghost use Rattle.cod_types.specs.Overwritten.{overwritten};
 ghost use Rattle.cod_region.specs.Memory.{called, calls_of, flawed_device, is_due};
@@ -47,9 +48,11 @@ impl FaultyRegion {
 impl Region for FaultyRegion {
     ghost device = { flawed_device };
 
+    ghost tells = { true };
+
     ghost whole = { λ r held is. same_length r.held.bytes held is };
 
-    ghost telling = { λ r s. refl };
+    ghost telling = { λ r. refl };
 
     ghost reliable = { λ r sure. no_fault (length r.fails == 0) r.faults sure };
 
@@ -89,7 +92,8 @@ impl Region for FaultyRegion {
         ensures cause { HasCause self.old.faults self.new.faults result }
 
         ensures listed { IsErr result ↔ IsTrue (is_due self.old) }
-        ensures done { OnOk result (self.new ≡ record (called self.old) { held = record self.old.held { bytes = overwritten off from.now self.old.held.bytes; writes = bump self.old.held.writes } }) }
+        ensures done { OnOk result (self.new ≡ record
+            (called self.old) { held = record self.old.held { bytes = overwritten off from.now self.old.held.bytes; writes = bump self.old.held.writes } }) }
         ensures failed { OnErr result (self.new ≡ record (called self.old) { held = record self.old.held { writes = bump self.old.held.writes } }) }
     {
         if self.fails_next() {
@@ -140,6 +144,13 @@ impl FaultyShelf {
         })
     }
 
+    /// Whether some call is listed with a node.
+    fn has_fault(&self, node: NodeId) -> bool
+        ensures { result ≡ list_any (λ fault. nat_eq fault.0.0 node.0) self.now }
+    {
+        self.faults.iter().any(|fault| fault.0 == node)
+    }
+
     /// The calls that are listed with a node.
     fn calls_of(&self, alloc: Global, node: NodeId) -> Result<Vec<u64>, OutOfMemory>
         ensures { IfOk result (λ calls. calls.items ≡ calls_of self.now node) }
@@ -157,10 +168,13 @@ impl FaultyShelf {
 impl Shelf for FaultyShelf {
     type Region = FaultyRegion;
 
-    ghost never_fails = { λ s node. length (calls_of s node) == 0 };
+    ghost regions = { λ s. record { tell = true; never_fail = λ node. length (calls_of s node) == 0 } };
+
+    ghost telling = { λ _. refl };
 
     fn region(&self, alloc: Global, node: NodeId, len: u32) -> Result<FaultyRegion, OutOfMemory>
-        ensures { IfOk result (λ r. r ≡ record { held = record { bytes = replicate len 0; reads = 0; writes = 0 }; fails = calls_of self.now node; calls = 0; faults = 0 }) }
+        ensures { IfOk result
+            (λ r. r ≡ record { held = record { bytes = replicate len 0; reads = 0; writes = 0 }; fails = calls_of self.now node; calls = 0; faults = 0 }) }
     {
         Ok(FaultyRegion {
             held: MemRegion::zeros(alloc, len)?,
@@ -168,5 +182,9 @@ impl Shelf for FaultyShelf {
             calls: 0,
             faults: 0,
         })
+    }
+
+    fn may_fail(&self, node: NodeId) -> bool {
+        self.has_fault(node)
     }
 }

@@ -4,10 +4,12 @@
 mod faulty;
 mod memory;
 mod region;
+mod untold;
 
 pub use faulty::{FaultyRegion, FaultyShelf};
 pub use memory::{MemRegion, MemShelf};
 pub use region::{Region, Shelf};
+pub use untold::Untold;
 
 #[cfg(test)]
 mod tests;

@@ -59,9 +59,11 @@ impl MemRegion {
 impl Region for MemRegion {
     ghost device = { memory_device };
 
+    ghost tells = { true };
+
     ghost whole = { λ r held is. same_length r.bytes held is };
 
-    ghost telling = { λ r s. refl };
+    ghost telling = { λ r. refl };
 
     ghost reliable = { λ r sure. refl };
 
@@ -115,9 +117,15 @@ impl MemShelf {
 impl Shelf for MemShelf {
     type Region = MemRegion;
 
-    ghost never_fails = { λ _ _. true };
+    ghost regions = { λ _. record { tell = true; never_fail = λ _. true } };
+
+    ghost telling = { λ _. refl };
 
     fn region(&self, alloc: Global, _node: NodeId, len: u32) -> Result<MemRegion, OutOfMemory> {
         MemRegion::zeros(alloc, len)
+    }
+
+    fn may_fail(&self, _node: NodeId) -> bool {
+        false
     }
 }

@@ -1,10 +1,9 @@
 //! What every region and every shelf keeps to.
-ghost use Rattle.std.specs.Prelude.{◌≡◌, ◌+◌, ◌≤◌, ℕ, List, Bool, true, Option, Some, length, take, MatchResult, IfOk, OnOk};
+ghost use Rattle.std.specs.Prelude.{◌≡◌, ◌+◌, ◌≤◌, ℕ, List, Bool, true, not, Option, Some, length, take, MatchResult, IfOk, OnOk};
 ghost use Rattle.std.specs.Option.{option_map, is_some};
 ghost use Rattle.cod_types.specs.Faults.{bump, HasCause};
 ghost use Rattle.cod_types.specs.Overwritten.{overwritten};
-ghost use Rattle.cod_region.specs.Device.{Device, Reads, Torn, Zeros};
-ghost use Rattle.cod_types.specs.declared.call.NodeId.{NodeId};
+ghost use Rattle.cod_region.specs.Device.{AllRegions, Device, Reads, Torn, Zeros};
 
 use cod_types::{Failed, NodeId, OutOfMemory};
 use std::alloc::Global;
@@ -14,6 +13,9 @@ use std::alloc::Global;
 pub trait Region: Drop {
     /// All that there is to say of it.
     ghost device: { Self → Device };
+
+    /// Whether regions of this type tell what they hold.
+    ghost tells: { Bool };
 
     /// How many bytes it has.
     fn len(&self) -> u32
@@ -42,24 +44,37 @@ pub trait Region: Drop {
     /// changes no other.
     fn write_at(&mut self, off: u32, from: &[u8]) -> Result<(), Failed>
         requires { off + length from.now ≤ (device self.old).size }
-        ensures content { MatchResult result (λ _. (device self.new).content ≡ option_map (overwritten off from.now) (device self.old).content) (λ _. Torn off (length from.now) (device self.old).content (device self.new).content) }
-        ensures same { device self.new ≡ record (device self.old) { content = (device self.new).content; writes = bump (device self.old).writes; faults = (device self.new).faults } }
+        ensures content { MatchResult result (λ _. (device self.new).content ≡ option_map (overwritten off from.now) (device self.old).content) (λ _. Torn off
+            (length from.now) (device self.old).content (device self.new).content) }
+        ensures same { device self.new ≡ record (device self.old) {
+          content = (device self.new).content;
+          writes = bump (device self.old).writes;
+          faults =
+              (device self.new).faults;
+        } }
         ensures cause { HasCause (device self.old).faults (device self.new).faults result };
 
     /// Cuts off the bytes from `len` on. A call that fails may leave any length from `len` to the old one; the bytes
     /// before `len` stay. It counts neither as a read nor as a write.
     fn cut(&mut self, len: u32) -> Result<(), Failed>
         requires { len ≤ (device self.old).size }
-        ensures size { MatchResult result (λ _. (device self.new).size ≡ len) (λ _. (len ≤ (device self.new).size) × ((device self.new).size ≤ (device self.old).size)) }
-        ensures content { MatchResult result (λ _. (device self.new).content ≡ option_map (take len) (device self.old).content) (λ _. option_map (take len) (device self.new).content ≡ option_map (take len) (device self.old).content) }
-        ensures same { device self.new ≡ record (device self.old) { size = (device self.new).size; content = (device self.new).content; faults = (device self.new).faults } }
+        ensures size { MatchResult result (λ _. (device self.new).size ≡ len) (λ _. (len ≤ (device self.new).size)
+            × ((device self.new).size ≤ (device self.old).size)) }
+        ensures content { MatchResult result (λ _. (device self.new).content ≡ option_map (take len) (device self.old).content) (λ _. option_map (take len)
+            (device self.new).content ≡ option_map (take len) (device self.old).content) }
+        ensures same { device self.new ≡ record (device self.old) {
+          size = (device self.new).size;
+          content = (device self.new).content;
+          faults =
+              (device self.new).faults;
+        } }
         ensures cause { HasCause (device self.old).faults (device self.new).faults result };
 
     /// What it holds has its length.
     ghost whole: { (r : Self) (held : List ℕ) → (device r).content ≡ Some held → length held ≡ (device r).size };
 
     /// Whether it tells what it holds is a fact of its type.
-    ghost telling: { (r s : Self) → is_some (device r).content ≡ is_some (device s).content };
+    ghost telling: { (r : Self) → is_some (device r).content ≡ tells };
 
     /// One that never fails has had no fault. So each call of it is answered `Ok`.
     ghost reliable: { (r : Self) → (device r).never_fails ≡ true → (device r).faults ≡ 0 };
@@ -69,11 +84,26 @@ pub trait Region: Drop {
 pub trait Shelf {
     type Region: Region;
 
-    /// Whether no region fails that it gives on a node.
-    ghost never_fails: { Self → NodeId → Bool };
+    /// What holds of every region that it gives: whether it tells what it holds, and on which nodes it never fails.
+    ghost regions: { Self → AllRegions };
 
     /// A region of `len` zeros on a node, with all counts 0. A broken device gives a region that fails at its first call.
     fn region(&self, alloc: Global, node: NodeId, len: u32) -> Result<Self::Region, OutOfMemory>
-        ensures fresh { IfOk result (λ r. Self.Region.device r ≡ record { size = len; content = (Self.Region.device r).content; reads = 0; writes = 0; faults = 0; never_fails = never_fails self.now node }) }
+        ensures fresh { IfOk result (λ r. Self.Region.device r ≡ record {
+          size = len;
+          content =
+              (Self.Region.device r).content;
+          reads = 0;
+          writes = 0;
+          faults = 0;
+          never_fails = (regions self.now).never_fail node;
+        }) }
         ensures zeros { IfOk result (λ r. Zeros (Self.Region.device r).content len) };
+
+    /// Whether a region that it gives on a node may fail.
+    fn may_fail(&self, node: NodeId) -> bool
+        ensures { result ≡ not ((regions self.now).never_fail node) };
+
+    /// They tell what they hold where regions of their type do.
+    ghost telling: { (s : Self) → (regions s).tell ≡ Self.Region.tells };
 }

@@ -9,7 +9,7 @@ use Rattle.std.proofs.lemmas.List.Quantifiers.{position-Some}
 use Rattle.cod_words.specs.Words.{is_name}
 use Rattle.cod_types.specs.declared.call.Call.{Call}
 use Rattle.cod_types.specs.declared.call.Call.TheVariants as calls
-use Rattle.cod_scenario.specs.declared.line.What.{What}
+use Rattle.cod_script.specs.declared.line.What.{What}
 use Rattle.cod_scenario.specs.declared.refusal.Refusal.{Refusal}
 use Rattle.cod_scenario.specs.declared.refusal.Refusal.TheVariants as why
 use Rattle.cod_scenario.specs.declared.said.Header.{Header}
@@ -19,10 +19,15 @@ use Rattle.cod_scenario.specs.declared.said.Keyword.{Keyword}
 use Rattle.cod_scenario.specs.declared.said.Keyword.TheVariants as key
 use Rattle.cod_scenario.specs.declared.said.Verb.{Verb}
 use Rattle.cod_scenario.specs.declared.said.Verb.TheVariants as verb
-use Rattle.cod_scenario.specs.Judge.{◌>>=◌, wants, found, number, field, known, each_known, node, data_word, word, counted, codfs_line, nodes_line, code_line, only_field, field_line, new_name, added_name, segment_line, client_line, read_line, write_line, swap_line, put_line, plain_line, drain_line, fail_line, care_line, schedule_line, end_line, what_says, does_line, rest_says, words_mean, may_follow, last_of, is_end, keyword_of}
-use Rattle.cod_scenario.specs.Sound.{IsThere, NamesNode}
-use Rattle.cod_scenario.specs.Lines.{Parts, header_of, parts_of, segments_of, clients_of, bytes_of, floor_of}
-use Rattle.cod_scenario.specs.Reading.{Accepts, HasSome, place_of}
+use Rattle.cod_scenario.specs.Judge.{◌>>=◌, wants, found, number, field, known, each_known, node, data_word, word, counted, codfs_line, nodes_line, code_line, only_field, field_line, new_name}
+use Rattle.cod_scenario.specs.Judge.{added_name, segment_line, client_line, read_line, write_line, swap_line, put_line, plain_line, drain_line, fail_line, care_line, schedule_line, end_line}
+use Rattle.cod_scenario.specs.Judge.{what_says, does_line, rest_says, words_mean, may_follow, last_of, is_end, keyword_of}
+use Rattle.hex.specs.Hex.{IsBytes}
+use Rattle.cod_script.specs.Sound.{HasBytes, IsThere, NamesNode}
+use Rattle.cod_scenario.specs.Lines.{header_of, body_of, segments_of, clients_of, bytes_of, floor_of}
+use Rattle.cod_script.specs.Script.{Body}
+use Rattle.cod_scenario.specs.Reading.{AreBefore, HasSome, IsSaidAt, place_of}
+use Rattle.cod_scenario.proofs.DataBytes.{data_in}
 
 -- ---- sequences
 
@@ -128,7 +133,7 @@ follows_place version (Some (said.Schedule t)) key.Schedule e = refl
 follows_place version (Some (said.Schedule t)) key.End e = refl
 follows_place version _ _ e = absurd (false≢true e)
 
-abbrev pub NeedsKey : Keyword → Parts → Type 0
+abbrev pub NeedsKey : Keyword → Body → Type 0
 NeedsKey key.Client p = 1 ≤ length p.segments
 NeedsKey (key.Does v) p = (1 ≤ length p.segments) × (1 ≤ length p.clients)
 NeedsKey key.Care p = (1 ≤ length p.segments) × (1 ≤ length p.clients)
@@ -136,7 +141,7 @@ NeedsKey key.Schedule p = (1 ≤ length p.segments) × (1 ≤ length p.clients)
 NeedsKey key.End p = (1 ≤ length p.segments) × (1 ≤ length p.clients)
 NeedsKey _ p = Unit {0}
 
-pub follows_needs : (version : ℕ) (last : Option Said) (w : Keyword) (p : Parts) → may_follow version last w ≡ true → HasSome last p → NeedsKey w p
+pub follows_needs : (version : ℕ) (last : Option Said) (w : Keyword) (p : Body) → may_follow version last w ≡ true → HasSome last p → NeedsKey w p
 unfolding may_follow
 follows_needs version (Some (said.Segment name)) key.Client p e h = h
 follows_needs version (Some (said.Client name)) key.Client p e h = h.0
@@ -242,7 +247,7 @@ read_in nodes names ws =
     bind (counted ws 3) _ Any (IsThere nodes (length names)) (any (counted ws 3)) (λ u _.
     bind (known names (word ws 0)) _ (λ i. i < length names) (IsThere nodes (length names)) (known_in names (word ws 0)) (λ seg lt.
     bind (number (word ws 1)) _ Any (IsThere nodes (length names)) (any (number (word ws 1))) (λ off _.
-    bind (number (word ws 2)) _ Any (IsThere nodes (length names)) (any (number (word ws 2))) (λ len _. (lt, tt)))))
+    bind (number (word ws 2)) _ Any (IsThere nodes (length names)) (any (number (word ws 2))) (λ len _. (lt, tt, tt)))))
 
 write_in : (nodes : ℕ) (names ws : List (List ℕ)) → IfOk (write_line names ws) (IsThere nodes (length names))
 unfolding write_line
@@ -250,7 +255,7 @@ write_in nodes names ws =
     bind (counted ws 3) _ Any (IsThere nodes (length names)) (any (counted ws 3)) (λ u _.
     bind (known names (word ws 0)) _ (λ i. i < length names) (IsThere nodes (length names)) (known_in names (word ws 0)) (λ seg lt.
     bind (number (word ws 1)) _ Any (IsThere nodes (length names)) (any (number (word ws 1))) (λ off _.
-    bind (data_word (word ws 2)) _ Any (IsThere nodes (length names)) (any (data_word (word ws 2))) (λ bytes _. (lt, tt)))))
+    bind (data_word (word ws 2)) _ IsBytes (IsThere nodes (length names)) (data_in (word ws 2)) (λ bytes b. (lt, tt, b)))))
 
 swap_in : (nodes : ℕ) (names ws : List (List ℕ)) → IfOk (swap_line names ws) (IsThere nodes (length names))
 unfolding swap_line
@@ -258,28 +263,28 @@ swap_in nodes names ws =
     bind (counted ws 4) _ Any (IsThere nodes (length names)) (any (counted ws 4)) (λ u _.
     bind (known names (word ws 0)) _ (λ i. i < length names) (IsThere nodes (length names)) (known_in names (word ws 0)) (λ seg lt.
     bind (number (word ws 1)) _ Any (IsThere nodes (length names)) (any (number (word ws 1))) (λ off _.
-    bind (data_word (word ws 2)) _ Any (IsThere nodes (length names)) (any (data_word (word ws 2))) (λ before _.
-    bind (data_word (word ws 3)) _ Any (IsThere nodes (length names)) (any (data_word (word ws 3))) (λ after _. (lt, tt))))))
+    bind (data_word (word ws 2)) _ IsBytes (IsThere nodes (length names)) (data_in (word ws 2)) (λ before b.
+    bind (data_word (word ws 3)) _ IsBytes (IsThere nodes (length names)) (data_in (word ws 3)) (λ after a. (lt, tt, (b, a)))))))
 
 put_in : (nodes : ℕ) (names ws : List (List ℕ)) → IfOk (put_line names ws) (IsThere nodes (length names))
 unfolding put_line
 put_in nodes names ws =
     bind (counted ws 2) _ Any (IsThere nodes (length names)) (any (counted ws 2)) (λ u _.
     bind (known names (word ws 0)) _ (λ i. i < length names) (IsThere nodes (length names)) (known_in names (word ws 0)) (λ seg lt.
-    bind (data_word (word ws 1)) _ Any (IsThere nodes (length names)) (any (data_word (word ws 1))) (λ bytes _. (lt, tt))))
+    bind (data_word (word ws 1)) _ IsBytes (IsThere nodes (length names)) (data_in (word ws 1)) (λ bytes b. (lt, tt, b))))
 
-plain_in : (nodes : ℕ) (call : Call) (names ws : List (List ℕ)) → NamesNode nodes call → IfOk (plain_line call names ws) (IsThere nodes (length names))
+plain_in : (nodes : ℕ) (call : Call) (names ws : List (List ℕ)) → NamesNode nodes call → HasBytes call → IfOk (plain_line call names ws) (IsThere nodes (length names))
 unfolding plain_line
-plain_in nodes call names ws n =
+plain_in nodes call names ws n b =
     bind (counted ws 1) _ Any (IsThere nodes (length names)) (any (counted ws 1)) (λ u _.
-    bind (known names (word ws 0)) _ (λ i. i < length names) (IsThere nodes (length names)) (known_in names (word ws 0)) (λ seg lt. (lt, n)))
+    bind (known names (word ws 0)) _ (λ i. i < length names) (IsThere nodes (length names)) (known_in names (word ws 0)) (λ seg lt. (lt, n, b)))
 
 drain_in : (nodes : ℕ) (names ws : List (List ℕ)) → IfOk (drain_line nodes names ws) (IsThere nodes (length names))
 unfolding drain_line
 drain_in nodes names ws =
     bind (counted ws 2) _ Any (IsThere nodes (length names)) (any (counted ws 2)) (λ u _.
     bind (known names (word ws 0)) _ (λ i. i < length names) (IsThere nodes (length names)) (known_in names (word ws 0)) (λ seg lt.
-    bind (node nodes (word ws 1)) _ (λ x. x < nodes) (IsThere nodes (length names)) (node_in nodes (word ws 1)) (λ x below. (lt, below))))
+    bind (node nodes (word ws 1)) _ (λ x. x < nodes) (IsThere nodes (length names)) (node_in nodes (word ws 1)) (λ x below. (lt, below, tt))))
 
 fail_in : (nodes segments : ℕ) (ws : List (List ℕ)) → IfOk (fail_line nodes ws) (IsThere nodes segments)
 unfolding fail_line
@@ -293,10 +298,10 @@ what_in hd names verb.Read ws = read_in hd.nodes names ws
 what_in hd names verb.Write ws = write_in hd.nodes names ws
 what_in hd names verb.Swap ws = swap_in hd.nodes names ws
 what_in hd names verb.Put ws = put_in hd.nodes names ws
-what_in hd names verb.Merge ws = plain_in hd.nodes calls.Merge names ws tt
-what_in hd names verb.Tick ws = plain_in hd.nodes calls.Tick names ws tt
-what_in hd names verb.Rebuild ws = plain_in hd.nodes calls.Rebuild names ws tt
-what_in hd names verb.Upgrade ws = plain_in hd.nodes calls.Upgrade names ws tt
+what_in hd names verb.Merge ws = plain_in hd.nodes calls.Merge names ws tt tt
+what_in hd names verb.Tick ws = plain_in hd.nodes calls.Tick names ws tt tt
+what_in hd names verb.Rebuild ws = plain_in hd.nodes calls.Rebuild names ws tt tt
+what_in hd names verb.Upgrade ws = plain_in hd.nodes calls.Upgrade names ws tt tt
 what_in hd names verb.Drain ws = drain_in hd.nodes names ws
 what_in hd names verb.Fail ws = fail_in hd.nodes (length names) ws
 
@@ -322,51 +327,69 @@ end_in : (ws : List (List ℕ)) (P : Said → Type 0) → P said.End → IfOk (e
 unfolding end_line
 end_in ws P h = bind (counted ws 0) _ Any P (any (counted ws 0)) (λ u _. h)
 
-pub rest_accepts : (before : List Said) (line : ℕ) (w : Keyword) (ws : List (List ℕ)) → 1 ≤ line → may_follow (header_of before).version (last_of before) w ≡ true
-    → IfOk (rest_says (header_of before) (segments_of before) (clients_of before) line w ws) (Accepts before)
+pub rest_accepts : (before : List Said) (line : ℕ) (w : Keyword) (ws : List (List ℕ)) → 1 ≤ line → AreBefore line (body_of before).clients
+    → may_follow (header_of before).version (last_of before) w ≡ true
+    → IfOk (rest_says (header_of before) (segments_of before) (clients_of before) line w ws) (IsSaidAt line before)
 unfolding rest_says
-rest_accepts before line key.Codfs ws le e =
-    codfs_in ws (Accepts before) (λ v a b. record { order = follows_place _ _ _ e; needs = λ _. tt; fresh = tt; good = (a, b) })
-rest_accepts before line key.Nodes ws le e =
-    nodes_in ws (Accepts before) (λ x cap a b c. record { order = follows_place _ _ _ e; needs = λ _. tt; fresh = tt; good = (a, b, c) })
-rest_accepts before line key.Code ws le e =
-    code_in (header_of before) ws (Accepts before) (λ n k a b c d f. record { order = follows_place _ _ _ e; needs = λ _. tt; fresh = tt; good = (a, b, c, d, f) })
-rest_accepts before line key.Block ws le e =
-    field_line_in 1 1048576 said.Block ws (Accepts before) (λ v a b. record { order = follows_place _ _ _ e; needs = λ _. tt; fresh = tt; good = (a, b) })
-rest_accepts before line key.Update ws le e =
-    field_line_in 1 (min (bytes_of (header_of before)) 65536) said.Update ws (Accepts before)
-    (λ v a b. record { order = follows_place _ _ _ e; needs = λ _. tt; fresh = tt; good = (a, omega (arith, b), omega (arith, b)) })
-rest_accepts before line key.Reserve ws le e =
-    field_line_in (floor_of (header_of before)) 4194304 said.Reserve ws (Accepts before)
-    (λ v a b. record { order = follows_place _ _ _ e; needs = λ _. tt; fresh = tt; good = (a, b) })
-rest_accepts before line key.Unit ws le e =
-    field_line_in 1 (header_of before).reserve said.Unit ws (Accepts before) (λ v a b. record { order = follows_place _ _ _ e; needs = λ _. tt; fresh = tt; good = (a, b) })
-rest_accepts before line key.Alpha ws le e =
-    field_line_in 0 10000 said.Alpha ws (Accepts before) (λ v a b. record { order = follows_place _ _ _ e; needs = λ _. tt; fresh = tt; good = b })
-rest_accepts before line key.Segment ws le e =
-    segment_in (segments_of before) ws (Accepts before) (λ name a. record { order = follows_place _ _ _ e; needs = λ _. tt; fresh = (a.1, a.2); good = a.0 })
-rest_accepts before line key.Client ws le e =
-    client_in (clients_of before) ws (Accepts before)
-    (λ name a. record { order = follows_place _ _ _ e; needs = λ h. follows_needs _ _ _ (parts_of before) e h; fresh = (a.1, a.2); good = a.0 })
-rest_accepts before line (key.Does v) ws le e =
-    does_in (header_of before) (segments_of before) line v ws (Accepts before)
-    (λ what t. record { order = follows_place _ _ _ e; needs = λ h. follows_needs _ _ _ (parts_of before) e h; fresh = tt; good = (le, t) })
-rest_accepts before line key.Care ws le e =
-    care_in ws (Accepts before)
-    (λ workers rounds a b. record { order = follows_place _ _ _ e; needs = λ h. follows_needs _ _ _ (parts_of before) e h; fresh = tt; good = (a, b) })
-rest_accepts before line key.Schedule ws le e =
-    schedule_in (clients_of before) ws (Accepts before)
-    (λ turns all. record { order = follows_place _ _ _ e; needs = λ h. follows_needs _ _ _ (parts_of before) e h; fresh = tt; good = all })
-rest_accepts before line key.End ws le e =
-    end_in ws (Accepts before) (record { order = follows_place _ _ _ e; needs = λ h. follows_needs _ _ _ (parts_of before) e h; fresh = tt; good = tt })
+rest_accepts before line key.Codfs ws le smaller e =
+    codfs_in ws (IsSaidAt line before) (λ v a b. record { accepts = record { order = follows_place _ _ _ e; needs = λ _. tt; fresh = tt; good = (a, b); later = tt }; numbered = tt })
+rest_accepts before line key.Nodes ws le smaller e =
+    nodes_in ws (IsSaidAt line before) (λ x cap a b c. record { accepts = record { order = follows_place _ _ _ e; needs = λ _. tt; fresh = tt; good = (a, b, c); later = tt }; numbered = tt })
+rest_accepts before line key.Code ws le smaller e =
+    code_in (header_of before) ws (IsSaidAt line before)
+    (λ n k a b c d f. record { accepts = record { order = follows_place _ _ _ e; needs = λ _. tt; fresh = tt; good = (a, b, c, d, f); later = tt }; numbered = tt })
+rest_accepts before line key.Block ws le smaller e =
+    field_line_in 1 1048576 said.Block ws (IsSaidAt line before)
+    (λ v a b. record { accepts = record { order = follows_place _ _ _ e; needs = λ _. tt; fresh = tt; good = (a, b); later = tt }; numbered = tt })
+rest_accepts before line key.Update ws le smaller e =
+    field_line_in 1 (min (bytes_of (header_of before)) 65536) said.Update ws (IsSaidAt line before)
+    (λ v a b. record { accepts = record { order = follows_place _ _ _ e; needs = λ _. tt; fresh = tt; good = (a, omega (arith, b), omega (arith, b)); later = tt }; numbered = tt })
+rest_accepts before line key.Reserve ws le smaller e =
+    field_line_in (floor_of (header_of before)) 4194304 said.Reserve ws (IsSaidAt line before)
+    (λ v a b. record { accepts = record { order = follows_place _ _ _ e; needs = λ _. tt; fresh = tt; good = (a, b); later = tt }; numbered = tt })
+rest_accepts before line key.Unit ws le smaller e =
+    field_line_in 1 (header_of before).reserve said.Unit ws (IsSaidAt line before)
+    (λ v a b. record { accepts = record { order = follows_place _ _ _ e; needs = λ _. tt; fresh = tt; good = (a, b); later = tt }; numbered = tt })
+rest_accepts before line key.Alpha ws le smaller e =
+    field_line_in 0 10000 said.Alpha ws (IsSaidAt line before)
+    (λ v a b. record { accepts = record { order = follows_place _ _ _ e; needs = λ _. tt; fresh = tt; good = b; later = tt }; numbered = tt })
+rest_accepts before line key.Segment ws le smaller e =
+    segment_in (segments_of before) ws (IsSaidAt line before)
+    (λ name a. record { accepts = record { order = follows_place _ _ _ e; needs = λ _. tt; fresh = (a.1, a.2); good = a.0; later = tt }; numbered = tt })
+rest_accepts before line key.Client ws le smaller e =
+    client_in (clients_of before) ws (IsSaidAt line before)
+    (λ name a. record { accepts = record { order = follows_place _ _ _ e; needs = λ h. follows_needs _ _ _ (body_of before) e h; fresh = (a.1, a.2); good = a.0; later = tt }; numbered = tt })
+rest_accepts before line (key.Does v) ws le smaller e =
+    does_in (header_of before) (segments_of before) line v ws (IsSaidAt line before)
+    (λ what t. record { accepts = record { order = follows_place _ _ _ e; needs = λ h. follows_needs _ _ _ (body_of before) e h; fresh = tt; good = (le, t); later = smaller }; numbered = refl })
+rest_accepts before line key.Care ws le smaller e =
+    care_in ws (IsSaidAt line before)
+    (λ workers rounds a b. record { accepts = record { order = follows_place _ _ _ e; needs = λ h. follows_needs _ _ _ (body_of before) e h; fresh = tt; good = (a, b); later = tt }; numbered = tt })
+rest_accepts before line key.Schedule ws le smaller e =
+    schedule_in (clients_of before) ws (IsSaidAt line before)
+    (λ turns all. record { accepts = record { order = follows_place _ _ _ e; needs = λ h. follows_needs _ _ _ (body_of before) e h; fresh = tt; good = all; later = tt }; numbered = tt })
+rest_accepts before line key.End ws le smaller e =
+    end_in ws (IsSaidAt line before) (record {
+      accepts = record {
+        order = follows_place _ _ _ e;
+        needs = λ h. follows_needs _ _ _
+            (body_of before) e h;
+        fresh = tt;
+        good = tt;
+        later = tt;
+      };
+      numbered = tt;
+    })
 
-pub words_in : (before : List Said) (line : ℕ) (first : List ℕ) (ws : List (List ℕ)) → 1 ≤ line → IfOk (words_mean before line first ws) (Accepts before)
+pub words_in : (before : List Said) (line : ℕ) (first : List ℕ) (ws : List (List ℕ)) → 1 ≤ line → AreBefore line (body_of before).clients
+    → IfOk (words_mean before line first ws) (IsSaidAt line before)
 unfolding words_mean
-words_in before line first ws le =
-    bind (wants (not (is_end (last_of before))) why.AfterEnd) _ Any (Accepts before) (any (wants (not (is_end (last_of before))) why.AfterEnd)) (λ u _.
-    bind (found (keyword_of first) why.Word) _ Any (Accepts before) (any (found (keyword_of first) why.Word)) (λ w _.
-    bind (wants (may_follow (header_of before).version (last_of before) w) why.Order) _ (λ _. may_follow (header_of before).version (last_of before) w ≡ true) (Accepts before)
-    (wanted _ why.Order) (λ v e. rest_accepts before line w ws le e)))
+words_in before line first ws le smaller =
+    bind (wants (not (is_end (last_of before))) why.AfterEnd) _ Any (IsSaidAt line before) (any (wants (not (is_end (last_of before))) why.AfterEnd)) (λ u _.
+    bind (found (keyword_of first) why.Word) _ Any (IsSaidAt line before) (any (found (keyword_of first) why.Word)) (λ w _.
+    bind (wants (may_follow (header_of before).version (last_of before) w) why.Order) _ (λ _. may_follow (header_of before).version (last_of before) w ≡ true) (IsSaidAt line before)
+    (wanted _ why.Order) (λ v e. rest_accepts before line w ws le smaller e)))
 
-pub words_accept : (before : List Said) (line : ℕ) (first : List ℕ) (ws : List (List ℕ)) (s : Said) → 1 ≤ line → words_mean before line first ws ≡ Ok s → Accepts before s
-words_accept before line first ws s le e = let h = words_in before line first ws le in rw e at h
+pub words_accept : (before : List Said) (line : ℕ) (first : List ℕ) (ws : List (List ℕ)) (s : Said) → 1 ≤ line → AreBefore line (body_of before).clients
+    → words_mean before line first ws ≡ Ok s → IsSaidAt line before s
+words_accept before line first ws s le smaller e = let h = words_in before line first ws le smaller in rw e at h

@@ -2,13 +2,14 @@ pub mod Keys
 pub mod EachKnown
 pub mod AllLines
 pub mod LineCount
-pub mod RoomSums
-pub mod NameBytes
 pub mod Gathering
+pub mod DataBytes
 pub mod Accepting
 pub mod Totals
+pub mod Weighing
+pub mod Numbering
 pub mod Soundness
 pub mod Keeping
+pub mod Calling
 pub mod Finishing
-pub mod Spacing
 pub mod TextSound

@@ -9,8 +9,8 @@ use Rattle.cod_scenario.specs.declared.said.Said.{Said}
 use Rattle.cod_scenario.specs.declared.refusal.Refusal.TheVariants.{NoEnd}
 use Rattle.cod_scenario.specs.declared.refusal.Refusal.{Refusal}
 use Rattle.cod_scenario.specs.Judge.{Heard, text_says, lines_say, is_end, last_of}
-use Rattle.cod_scenario.specs.Lines.{plan_of}
-use Rattle.cod_scenario.specs.Reads.{reads, finished, plan_or}
+use Rattle.cod_scenario.specs.Lines.{script_of}
+use Rattle.cod_scenario.specs.Reads.{reads, finished, script_or}
 use Rattle.cod_words.specs.Words.{lines_of, is_last_empty}
 
 length-take-le-self : {A : Type 0} (n : ℕ) (xs : List A) → length (take n xs) ≤ length xs
@@ -30,7 +30,7 @@ few_lines text =
     let d : count_by (λ b. nat_eq b 10) text ≤ length text = count_by-le-length (λ b. nat_eq b 10) text in
     omega (arith, a, e, d)
 
-ended : (b : Bool) (said : List Said) (e : ℕ × Refusal) → plan_or (cond b (Ok said) (Err e)) ≡ cond b (Ok (plan_of said)) (Err e)
+ended : (b : Bool) (said : List Said) (e : ℕ × Refusal) → script_or (cond b (Ok said) (Err e)) ≡ cond b (Ok (script_of said)) (Err e)
 ended true said e = refl
 ended false said e = refl
 

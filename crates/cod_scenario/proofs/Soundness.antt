@@ -1,5 +1,5 @@
 -- What is known of accepted lines stays known with one line more.
-use Rattle.std.proofs.Common.{◌≡◌, ℕ, zero, suc, ◌+◌, ◌-◌, ◌<◌, ◌≤◌, true, false, List, [], ◌∷◌, ◌++◌, length, get_or, refl, sym, ap, ◌∙◌, arith, Some, inl, inr, min, length-append}
+use Rattle.std.proofs.Common.{◌≡◌, ℕ, zero, suc, ◌+◌, ◌-◌, ◌<◌, ◌≤◌, true, false, List, [], ◌∷◌, ◌++◌, length, get_or, refl, sym, ap, ◌∙◌, arith, Some, inl, inr, min}
 use Rattle.std.specs.Prelude.{slice_get}
 use Rattle.std.specs.List.{All, list_any}
 use Rattle.std.specs.Str.{bytes_eq}
@@ -11,19 +11,23 @@ use Rattle.std.proofs.lemmas.Bool.{cases_lt, false≢true}
 use Rattle.std.proofs.lemmas.List.Elements.{All-nil, All-cons, All-push, All-append}
 use Rattle.std.proofs.lemmas.List.Sums.{sum_by-append}
 use Rattle.cod_words.specs.Words.{is_name}
-use Rattle.cod_scenario.specs.declared.line.Line.{Line}
-use Rattle.cod_scenario.specs.declared.line.What.{What}
-use Rattle.cod_scenario.specs.declared.line.What.TheVariants.{Segment, Fail}
+use Rattle.cod_script.specs.declared.line.Line.{Line}
+use Rattle.cod_script.specs.declared.line.What.{What}
+use Rattle.cod_script.specs.declared.line.What.TheVariants.{Segment, Fail}
 use Rattle.cod_scenario.specs.declared.said.Header.{Header}
 use Rattle.cod_scenario.specs.declared.said.Said.{Said}
 use Rattle.cod_scenario.specs.declared.said.Said.TheVariants as said
-use Rattle.cod_scenario.specs.Judge.{last_of}
-use Rattle.cod_scenario.specs.Plan.{Client}
-use Rattle.cod_scenario.specs.Lines.{Parts, header_of, parts_of, no_parts, with_line, onto_last, noted, segments_of, clients_of, client_names}
-use Rattle.cod_scenario.specs.Sound.{AllDiffer, IsThere, IsClient, line_count}
-use Rattle.cod_scenario.specs.Reading.{IsGood, IsFresh, Accepts, HasSome, Needs, place_of, rank_of, IsHeader, ArePartsIn, IsSound}
-use Rattle.cod_scenario.proofs.Gathering.{longer, parts_more}
-use Rattle.cod_scenario.proofs.Totals.{header_early, header_late, clients_step}
+use Rattle.cod_scenario.specs.Judge.{is_placed, last_of}
+use Rattle.cod_script.specs.Script.{Client, Body, onto_last}
+use Rattle.cod_scenario.specs.Lines.{header_of, body_of, no_body, with_line, noted, segments_of, clients_of, client_names, script_with, weight_of}
+use Rattle.cod_script.specs.Sound.{AllDiffer, IsThere, IsLine, IsClient, line_count}
+use Rattle.cod_script.specs.Weight.{weight}
+use Rattle.cod_scenario.specs.Reading.{IsGood, IsFresh, Accepts, HasSome, Needs, place_of, rank_of, IsHeader, IsBodyIn, IsCarried, IsLater, IsSound}
+use Rattle.cod_script.proofs.Lines_added.{longer}
+use Rattle.cod_scenario.proofs.Gathering.{body_more, length_more}
+use Rattle.cod_scenario.proofs.Numbering.{rise_onto, client_numbers}
+use Rattle.cod_scenario.proofs.Weighing.{weight_step, no_weight, no_room_taken, room_step, HasRoom}
+use Rattle.cod_scenario.proofs.Totals.{header_early, header_late, clients_step, weight_late}
 
 -- ---- the last line
 
@@ -31,9 +35,6 @@ last_at : {A : Type 0} (xs : List A) (x : A) (i : ℕ) → i ≡ length xs → s
 last_at [] x i e = rw e refl
 last_at (y ∷ ys) x zero e = absurd (omega (arith, e))
 last_at (y ∷ ys) x (suc i) e = last_at ys x i (omega (arith, e))
-
-pub length_more : {A : Type 0} (xs : List A) (x : A) → length (xs ++ x ∷ []) ≡ length xs + 1
-length_more xs x = length-append xs (x ∷ [])
 
 pub last_more : (lines : List Said) (s : Said) → last_of (lines ++ s ∷ []) ≡ Some s
 last_more lines s = let n = length_more lines s in last_at lines s (length (lines ++ s ∷ []) - 1) (omega (arith, n))
@@ -80,7 +81,7 @@ header_more lines s a b order old good =
 
 -- ---- the other lines
 
-header_line : (p : Parts) (s : Said) → rank_of s < 8 → with_line p s ≡ p
+header_line : (p : Body) (s : Said) → rank_of s < 8 → with_line p s ≡ p
 header_line p (said.Codfs v) lt = refl
 header_line p (said.Nodes nodes c) lt = refl
 header_line p (said.Code n k) lt = refl
@@ -102,7 +103,7 @@ all_onto P (c ∷ []) l all f = All-cons P (longer c l) [] (f c (all 0 c (omega 
 all_onto P (c ∷ d ∷ more) l all f =
     All-cons P c (onto_last (d ∷ more) l) (all 0 c (omega arith)) (all_onto P (d ∷ more) l (λ k e lt. all (suc k) e (omega (arith, lt))) f)
 
-some_more : (p : Parts) (s : Said) → Needs s p → HasSome (Some s) (with_line p s)
+some_more : (p : Body) (s : Said) → Needs s p → HasSome (Some s) (with_line p s)
 some_more p (said.Segment name) n = let e = length_more p.segments name in omega (arith, e)
 some_more p (said.Client name) n = let e = length_more p.clients (record { name = name; lines = [] }) in (n, omega (arith, e))
 some_more p (said.Does line what) n = let e = length-onto_last p.clients (record { line = line; what = what }) in let m = n.1 in (n.0, omega (arith, e, m))
@@ -112,7 +113,7 @@ some_more p said.End n = n
 some_more p _ n = tt
 
 there_more : (nodes a b : ℕ) (what : What) → a ≤ b → IsThere nodes a what → IsThere nodes b what
-there_more nodes a b (Segment seg call) le t = let lt = t.0 in (omega (arith, le, lt), t.1)
+there_more nodes a b (Segment seg call) le t = let lt = t.0 in (omega (arith, le, lt), t.1, t.2)
 there_more nodes a b (Fail node) le t = t
 
 client_more : (nodes a b : ℕ) (c : Client) → a ≤ b → IsClient nodes a c → IsClient nodes b c
@@ -154,22 +155,24 @@ differ_push names name d new i j li lj e =
 none_differ : AllDiffer []
 none_differ i j li lj e = absurd (omega (arith, li))
 
-pub no_parts_in : (nodes : ℕ) → ArePartsIn nodes no_parts
-no_parts_in nodes = record {
+pub no_body_in : (nodes : ℕ) → IsBodyIn nodes no_body
+no_body_in nodes = record {
   most_segments = omega arith;
   segment_names = All-nil (λ name. is_name name ≡ true);
   segments_differ = none_differ;
   most_clients = omega arith;
   clients = All-nil (IsClient nodes 0);
   clients_differ = none_differ;
+  lines_rise = tt;
   turns = All-nil (λ t. t < 0);
   most_workers = omega arith;
   most_rounds = omega arith;
 }
 
-parts_step : (h : Header) (p : Parts) (s : Said) → ArePartsIn h.nodes p → IsFresh p.segments (client_names p) s
-    → length (client_names p) ≡ length p.clients → IsGood h (length p.segments) (length (client_names p)) s → ArePartsIn h.nodes (with_line p s)
-parts_step h p (said.Segment name) i f e g =
+body_step : (h : Header) (p : Body) (s : Said) → IsBodyIn h.nodes p → IsFresh p.segments (client_names p) s
+    → length (client_names p) ≡ length p.clients → IsGood h (length p.segments) (length (client_names p)) s
+    → IsLater p.clients s → IsBodyIn h.nodes (with_line p s)
+body_step h p (said.Segment name) i f e g later =
     let n = length_more p.segments name in
     let few = f.1 in
     record {
@@ -179,11 +182,12 @@ parts_step h p (said.Segment name) i f e g =
       most_clients = i.most_clients;
       clients = clients_wider h.nodes (length p.segments) (length (p.segments ++ name ∷ [])) p.clients (omega (arith, n)) i.clients;
       clients_differ = i.clients_differ;
+      lines_rise = i.lines_rise;
       turns = i.turns;
       most_workers = i.most_workers;
       most_rounds = i.most_rounds;
     }
-parts_step h p (said.Client name) i f e g =
+body_step h p (said.Client name) i f e g later =
     let c : Client = record { name = name; lines = [] } in
     let n = length_more p.clients c in
     let few = f.1 in
@@ -192,13 +196,14 @@ parts_step h p (said.Client name) i f e g =
       segment_names = i.segment_names;
       segments_differ = i.segments_differ;
       most_clients = omega (arith, n, few, e);
-      clients = All-push (IsClient h.nodes (length p.segments)) p.clients c i.clients (g, All-nil (λ (l : Line). (1 ≤ l.line) × IsThere h.nodes (length p.segments) l.what));
+      clients = All-push (IsClient h.nodes (length p.segments)) p.clients c i.clients (g, All-nil (IsLine h.nodes (length p.segments)));
       clients_differ = rw (clients_step p (said.Client name)) (differ_push (client_names p) name i.clients_differ f.0);
+      lines_rise = rw (client_numbers p.clients name) i.lines_rise;
       turns = turns_wider (length p.clients) (length (p.clients ++ c ∷ [])) p.schedule (omega (arith, n)) i.turns;
       most_workers = i.most_workers;
       most_rounds = i.most_rounds;
     }
-parts_step h p (said.Does line what) i f e g =
+body_step h p (said.Does line what) i f e g later =
     let l : Line = record { line = line; what = what } in
     let n = length-onto_last p.clients l in
     let most = i.most_clients in
@@ -208,15 +213,14 @@ parts_step h p (said.Does line what) i f e g =
       segments_differ = i.segments_differ;
       most_clients = omega (arith, n, most);
       clients = all_onto (IsClient h.nodes (length p.segments)) p.clients l i.clients
-          (λ c j. (j.0, All-push (λ (l : Line). (1 ≤ l.line) × IsThere h.nodes (length p.segments) l.what) c.lines l j.1 g));
+          (λ c j. (j.0, All-push (IsLine h.nodes (length p.segments)) c.lines l j.1 g));
       clients_differ = rw (clients_step p (said.Does line what)) i.clients_differ;
+      lines_rise = rise_onto p.clients l g.0 later i.lines_rise;
       turns = turns_wider (length p.clients) (length (onto_last p.clients l)) p.schedule (omega (arith, n)) i.turns;
       most_workers = i.most_workers;
       most_rounds = i.most_rounds;
     }
-parts_step h p (said.Care workers rounds) i f e g =
-    record { most_segments = i.most_segments; segment_names = i.segment_names; segments_differ = i.segments_differ; most_clients = i.most_clients; clients = i.clients; clients_differ = i.clients_differ; turns = i.turns; most_workers = g.0; most_rounds = g.1 }
-parts_step h p (said.Schedule turns) i f e g =
+body_step h p (said.Care workers rounds) i f e g later =
     record {
       most_segments = i.most_segments;
       segment_names = i.segment_names;
@@ -224,15 +228,29 @@ parts_step h p (said.Schedule turns) i f e g =
       most_clients = i.most_clients;
       clients = i.clients;
       clients_differ = i.clients_differ;
+      lines_rise = i.lines_rise;
+      turns = i.turns;
+      most_workers = g.0;
+      most_rounds = g.1;
+    }
+body_step h p (said.Schedule turns) i f e g later =
+    record {
+      most_segments = i.most_segments;
+      segment_names = i.segment_names;
+      segments_differ = i.segments_differ;
+      most_clients = i.most_clients;
+      clients = i.clients;
+      clients_differ = i.clients_differ;
+      lines_rise = i.lines_rise;
       turns = All-append (λ t. t < length p.clients) p.schedule turns i.turns (turns_wider (length (client_names p)) (length p.clients) turns (omega (arith, e)) g);
       most_workers = i.most_workers;
       most_rounds = i.most_rounds;
     }
-parts_step h p _ i f e g = i
+body_step h p _ i f e g later = i
 
 -- ---- the number of lines
 
-abbrev counted : Parts → ℕ
+abbrev counted : Body → ℕ
 counted p = line_count p.clients + (length p.segments + (length p.clients + 8))
 
 lines_onto : (cs : List Client) (l : Line) → line_count (onto_last cs l) ≤ line_count cs + 1
@@ -244,7 +262,7 @@ lines_onto (c ∷ d ∷ more) l =
     let b : line_count (c ∷ d ∷ more) ≡ line_count (c ∷ []) + line_count (d ∷ more) = sum_by-append (λ (e : Client). length e.lines) (c ∷ []) (d ∷ more) in
     omega (arith, h, a, b)
 
-count_step : (p : Parts) (s : Said) → counted (with_line p s) ≤ counted p + 1
+count_step : (p : Body) (s : Said) → counted (with_line p s) ≤ counted p + 1
 count_step p (said.Segment name) = let n = length_more p.segments name in omega (arith, n)
 count_step p (said.Client name) =
     let c : Client = record { name = name; lines = [] } in
@@ -260,40 +278,63 @@ count_step p _ = omega arith
 
 -- ---- all together
 
-length_names : (cs : List Client) → length (client_names (record no_parts { clients = cs })) ≡ length cs
+length_names : (cs : List Client) → length (client_names (record no_body { clients = cs })) ≡ length cs
 length_names [] = refl
 length_names (c ∷ cs) = ap suc (length_names cs)
 
-parts_more_in : (lines : List Said) (s : Said) → IsSound lines → Accepts lines s → ArePartsIn (header_of (lines ++ s ∷ [])).nodes (parts_of (lines ++ s ∷ []))
-parts_more_in lines s i a = elim (cases_lt (length lines) 8) [
+body_more_in : (lines : List Said) (s : Said) → IsSound lines → Accepts lines s → IsBodyIn (header_of (lines ++ s ∷ [])).nodes (body_of (lines ++ s ∷ []))
+body_more_in lines s i a = elim (cases_lt (length lines) 8) [
   | inl lt ↦
       let order = a.order in let place = i.place in
-      let e : with_line (parts_of lines) s ≡ no_parts = header_line (parts_of lines) s (omega (arith, lt, order, place)) ∙ i.bare (omega (arith, lt)) in
-      rw (parts_more lines s, e) (no_parts_in (header_of (lines ++ s ∷ [])).nodes)
+      let e : with_line (body_of lines) s ≡ no_body = header_line (body_of lines) s (omega (arith, lt, order, place)) ∙ i.bare (omega (arith, lt)) in
+      rw (body_more lines s, e) (no_body_in (header_of (lines ++ s ∷ [])).nodes)
   | inr le ↦
-      rw (parts_more lines s, header_late lines s le) (parts_step (header_of lines) (parts_of lines) s i.parts a.fresh (length_names (parts_of lines).clients) a.good)
+      rw (body_more lines s, header_late lines s le) (body_step (header_of lines) (body_of lines) s i.body a.fresh (length_names (body_of lines).clients) a.good a.later)
 ]
 
-count_more : (lines : List Said) (s : Said) → IsSound lines → Accepts lines s → 8 ≤ length (lines ++ s ∷ []) → counted (parts_of (lines ++ s ∷ [])) ≤ length (lines ++ s ∷ [])
+count_more : (lines : List Said) (s : Said) → IsSound lines → Accepts lines s → 8 ≤ length (lines ++ s ∷ []) → counted (body_of (lines ++ s ∷ [])) ≤ length (lines ++ s ∷ [])
 count_more lines s i a most = elim (cases_lt (length lines) 8) [
   | inl lt ↦
       let order = a.order in let place = i.place in
-      let e : with_line (parts_of lines) s ≡ no_parts = header_line (parts_of lines) s (omega (arith, lt, order, place)) ∙ i.bare (omega (arith, lt)) in
-      rw (parts_more lines s, e) most
+      let e : with_line (body_of lines) s ≡ no_body = header_line (body_of lines) s (omega (arith, lt, order, place)) ∙ i.bare (omega (arith, lt)) in
+      rw (body_more lines s, e) most
   | inr le ↦
-      let step = count_step (parts_of lines) s in
+      let step = count_step (body_of lines) s in
       let old = i.count le in
       let n = length_more lines s in
-      rw (parts_more lines s) (omega (arith, step, old, n))
+      rw (body_more lines s) (omega (arith, step, old, n))
 ]
 
-bare_more : (lines : List Said) (s : Said) → IsSound lines → Accepts lines s → length (lines ++ s ∷ []) ≤ 8 → parts_of (lines ++ s ∷ []) ≡ no_parts
+bare_more : (lines : List Said) (s : Said) → IsSound lines → Accepts lines s → length (lines ++ s ∷ []) ≤ 8 → body_of (lines ++ s ∷ []) ≡ no_body
 bare_more lines s i a le =
     let n = length_more lines s in let order = a.order in let place = i.place in
-    parts_more lines s ∙ (header_line (parts_of lines) s (omega (arith, n, le, order, place)) ∙ i.bare (omega (arith, n, le)))
+    body_more lines s ∙ (header_line (body_of lines) s (omega (arith, n, le, order, place)) ∙ i.bare (omega (arith, n, le)))
 
-pub sound_more : (lines : List Said) (s : Said) → IsSound lines → Accepts lines s → IsSound (lines ++ s ∷ [])
-sound_more lines s i a =
+weighed_more : (lines : List Said) (s : Said) → IsSound lines → Accepts lines s
+    → weight (script_with (header_of (lines ++ s ∷ [])) (body_of (lines ++ s ∷ []))) ≤ weight_of (lines ++ s ∷ [])
+weighed_more lines s i a = elim (cases_lt (length lines) 8) [
+  | inl lt ↦
+      let n = length_more lines s in
+      let none = no_weight (header_of (lines ++ s ∷ [])) in
+      rw (bare_more lines s i a (omega (arith, n, lt))) (omega (arith, none))
+  | inr le ↦
+      let step = weight_step (header_of lines) (body_of lines) s in
+      let old = i.weighed in
+      let more = weight_late lines s le in
+      rw (body_more lines s, header_late lines s le) (omega (arith, step, old, more))
+]
+
+room_more : (lines : List Said) (s : Said) → IsSound lines → Accepts lines s → is_placed lines s ≡ true
+    → HasRoom (header_of (lines ++ s ∷ [])) (body_of (lines ++ s ∷ []))
+room_more lines s i a placed = elim (cases_lt (length lines) 8) [
+  | inl lt ↦
+      let n = length_more lines s in
+      rw (bare_more lines s i a (omega (arith, n, lt))) (no_room_taken (header_of (lines ++ s ∷ [])))
+  | inr le ↦ rw (body_more lines s, header_late lines s le) (room_step lines s i.room placed)
+]
+
+pub sound_more : (lines : List Said) (s : Said) → IsSound lines → Accepts lines s → IsCarried lines s → IsSound (lines ++ s ∷ [])
+sound_more lines s i a c =
     let n = length_more lines s in
     let order = a.order in
     let place = i.place in
@@ -302,7 +343,10 @@ sound_more lines s i a =
       place = ap place_of (last_more lines s) ∙ omega (arith, n, order, place, after);
       header = header_more lines s (length (segments_of lines)) (length (clients_of lines)) (sym place ∙ order) i.header a.good;
       bare = bare_more lines s i a;
-      some = rw (last_more lines s, parts_more lines s) (some_more (parts_of lines) s (a.needs i.some));
-      parts = parts_more_in lines s i a;
+      some = rw (last_more lines s, body_more lines s) (some_more (body_of lines) s (a.needs i.some));
+      body = body_more_in lines s i a;
       count = count_more lines s i a;
+      weighed = weighed_more lines s i a;
+      light = c.light;
+      room = room_more lines s i a c.placed;
     }

@@ -2,20 +2,20 @@
 use Rattle.std.proofs.Common.{◌≡◌, ℕ, zero, suc, ◌+◌, ◌<◌, ◌≤◌, true, false, List, [], ◌∷◌, ◌++◌, length, take, drop, refl, sym, ap, ◌∙◌, arith, inl, inr, Ok, Err, map, min, ◌^◌, ◌-◌}
 use Rattle.std.proofs.Math.Seq.{take-nil, drop-nil}
 use Rattle.std.specs.Prelude.{nat_le, IfOk}
-use Rattle.std.proofs.lemmas.Bool.{cases_lt, le-ltb, lt-ltb, le-leb, lt-leb}
+use Rattle.std.proofs.lemmas.Bool.{cases_lt, le-ltb, lt-ltb, le-leb, lt-leb, leb-true}
 use Rattle.std.proofs.lemmas.List.Sums.{sum_by-append, fold-append}
 use Rattle.std.proofs.lemmas.List.{map_push}
 use Rattle.cod_scenario.specs.declared.said.Said.{Said}
 use Rattle.cod_scenario.specs.declared.said.Said.TheVariants as said
 use Rattle.cod_scenario.specs.declared.said.Header.{Header}
-use Rattle.cod_scenario.specs.declared.line.Line.{Line}
-use Rattle.cod_scenario.specs.Plan.{Client}
-use Rattle.cod_scenario.specs.Lines.{Parts, header_of, parts_of, segments_of, clients_of, client_names, onto_last, with_line, weight_of, line_weight, noted, no_header, has_room}
+use Rattle.cod_script.specs.declared.line.Line.{Line}
+use Rattle.cod_script.specs.Script.{Client, Body, onto_last}
+use Rattle.cod_scenario.specs.Lines.{header_of, body_of, segments_of, clients_of, client_names, with_line, weight_of, line_weight, noted, no_header, holds}
 use Rattle.cod_scenario.specs.Judge.{wants, carried, is_segment, is_placed}
 use Rattle.cod_scenario.specs.declared.refusal.Refusal.TheVariants.{TooLarge, Room}
-use Rattle.cod_scenario.specs.Reading.{AddsTo, with_segment, with_client, with_header}
-use Rattle.cod_scenario.proofs.Gathering.{parts_more}
-use Rattle.cod_scenario.proofs.Accepting.{bind, Any, any, wanted}
+use Rattle.cod_scenario.specs.Reading.{AddsTo, IsCarried, with_segment, with_client, with_header}
+use Rattle.cod_scenario.proofs.Gathering.{body_more}
+use Rattle.cod_scenario.proofs.Accepting.{bind, wanted}
 
 take_early : {A : Type 0} (n : ℕ) (xs : List A) (x : A) → length xs < n → take n (xs ++ x ∷ []) ≡ take n xs ++ x ∷ []
 take_early zero xs x h = absurd (omega (arith, h))
@@ -63,7 +63,7 @@ pub weight_late : (lines : List Said) (s : Said) → 8 ≤ length lines → weig
 unfolding weight_of
 weight_late lines s h = rw (header_late lines s h, drop_late 8 lines s h, sum_by-append (line_weight (header_of lines)) (drop 8 lines) (s ∷ [])) (grind arith)
 
-segments_step : (p : Parts) (s : Said) → (with_line p s).segments ≡ with_segment p.segments s
+segments_step : (p : Body) (s : Said) → (with_line p s).segments ≡ with_segment p.segments s
 segments_step p (said.Segment name) = refl
 segments_step p _ = refl
 
@@ -72,16 +72,16 @@ names_onto [] l = refl
 names_onto (c ∷ []) l = refl
 names_onto (c ∷ d ∷ more) l = ap (λ ns. c.name ∷ ns) (names_onto (d ∷ more) l)
 
-pub clients_step : (p : Parts) (s : Said) → client_names (with_line p s) ≡ with_client (client_names p) s
+pub clients_step : (p : Body) (s : Said) → client_names (with_line p s) ≡ with_client (client_names p) s
 clients_step p (said.Client name) = map_push (λ (c : Client). c.name) p.clients (record { name = name; lines = [] })
 clients_step p (said.Does line what) = names_onto p.clients (record { line = line; what = what })
 clients_step p _ = refl
 
 pub segments_more : (lines : List Said) (s : Said) → segments_of (lines ++ s ∷ []) ≡ with_segment (segments_of lines) s
-segments_more lines s = ap (λ (p : Parts). p.segments) (parts_more lines s) ∙ segments_step (parts_of lines) s
+segments_more lines s = ap (λ (p : Body). p.segments) (body_more lines s) ∙ segments_step (body_of lines) s
 
 pub clients_more : (lines : List Said) (s : Said) → clients_of (lines ++ s ∷ []) ≡ with_client (clients_of lines) s
-clients_more lines s = ap client_names (parts_more lines s) ∙ clients_step (parts_of lines) s
+clients_more lines s = ap client_names (body_more lines s) ∙ clients_step (body_of lines) s
 
 is_early : (n : ℕ) (h : Header) (s : Said) → n < 8 → with_header n h s ≡ noted h s
 is_early n h s lt = rw (lt-ltb n 8 lt) refl
@@ -117,18 +117,22 @@ pub is_carried : (lines : List Said) (s : Said) (total : ℕ) → total ≤ 2684
 unfolding carried
 is_carried lines s total h a room = let e = a.0 h in rw (le-leb (weight_of (lines ++ s ∷ [])) 268435456 (omega (arith, e, h)), room) refl
 
-carried_in : (lines : List Said) (s : Said) → IfOk (carried lines s) (λ _. is_placed lines s ≡ true)
+pub carried_in : (lines : List Said) (s : Said) (P : Said → Type 0) → (IsCarried lines s → P s) → IfOk (carried lines s) P
 unfolding carried
-carried_in lines s =
-    bind (wants (nat_le (weight_of (lines ++ s ∷ [])) 268435456) TooLarge) _ Any (λ _. is_placed lines s ≡ true) (any (wants (nat_le (weight_of (lines ++ s ∷ [])) 268435456) TooLarge)) (λ u _.
-    bind (wants (is_placed lines s) Room) _ (λ _. is_placed lines s ≡ true) (λ _. is_placed lines s ≡ true) (wanted _ Room) (λ v e. e))
+carried_in lines s P f =
+    bind (wants (nat_le (weight_of (lines ++ s ∷ [])) 268435456) TooLarge) _ (λ _. nat_le (weight_of (lines ++ s ∷ [])) 268435456 ≡ true) P (wanted _ TooLarge) (λ u light.
+    bind (wants (is_placed lines s) Room) _ (λ _. is_placed lines s ≡ true) P (wanted _ Room) (λ v placed.
+    f (record { light = leb-true (weight_of (lines ++ s ∷ [])) 268435456 light; placed = placed })))
+
+pub was_carried : (lines : List Said) (s : Said) → carried lines s ≡ Ok s → IsCarried lines s
+was_carried lines s e = let h = carried_in lines s (λ _. IsCarried lines s) (λ c. c) in rw e at h
 
 -- there is room where a segment was carried
-pub has_place : (lines : List Said) (s : Said) → is_segment s ≡ true → carried lines s ≡ Ok s → has_room (header_of lines) (length (segments_of lines) + 1) ≡ true
-has_place lines s is e = let h = carried_in lines s in let k : is_placed lines s ≡ true = rw e at h in rw is at k
+pub has_place : (lines : List Said) (s : Said) → is_segment s ≡ true → carried lines s ≡ Ok s → holds (header_of lines) (length (segments_of lines) + 1) ≡ true
+has_place lines s is e = let k = (was_carried lines s e).placed in rw is at k
 
 pub placed_other : (lines : List Said) (s : Said) → is_segment s ≡ false → is_placed lines s ≡ true
 placed_other lines s e = rw e refl
 
-pub placed_at : (lines : List Said) (s : Said) → is_segment s ≡ true → is_placed lines s ≡ has_room (header_of lines) (length (segments_of lines) + 1)
+pub placed_at : (lines : List Said) (s : Said) → is_segment s ≡ true → is_placed lines s ≡ holds (header_of lines) (length (segments_of lines) + 1)
 placed_at lines s e = rw e refl

@@ -1,5 +1,6 @@
 -- Which line is refused, and why: a line is judged by the list of the lines before it.
-use Rattle.std.specs.Prelude.{◌≡◌, ℕ, ◌+◌, ◌==◌, ◌&&◌, ◌||◌, not, nat_le, nat_lt, min, Bool, true, false, if◌then◌else◌, List, [], ◌∷◌, ◌++◌, length, drop, slice_index, slice_index_or, slice_get, ◌-◌, codes, Option, Some, None, Result, Ok, Err}
+use Rattle.std.specs.Prelude.{◌≡◌, ℕ, ◌+◌, ◌==◌, ◌&&◌, ◌||◌, not, nat_le, nat_lt, min, Bool, true, false, if◌then◌else◌, List, [], ◌∷◌, ◌++◌, length, drop}
+use Rattle.std.specs.Prelude.{slice_index, slice_index_or, slice_get, ◌-◌, codes, Option, Some, None, Result, Ok, Err}
 use Rattle.std.specs.List.{list_all, list_any, position}
 use Rattle.std.specs.Str.{bytes_eq}
 use Rattle.std.specs.Str.Lines.{strip_carriage_return}
@@ -9,9 +10,10 @@ use Rattle.cod_words.specs.Words.{words_of, lines_of, number_of, is_name, data_o
 use Rattle.cod_words.specs.declared.data.DataError.{DataError}
 use Rattle.cod_words.specs.declared.data.DataError.TheVariants as data_errors
 use Rattle.cod_scenario.specs.declared.refusal.Refusal.{Refusal}
-use Rattle.cod_scenario.specs.declared.refusal.Refusal.TheVariants.{BadByte, AfterEnd, Word, Order, Count, Number, Field, Name, Twice, Unknown, Node, Data, TooLarge, Room, NoEnd, TooLong}
-use Rattle.cod_scenario.specs.declared.line.What.{What}
-use Rattle.cod_scenario.specs.declared.line.What.TheVariants.{Segment, Fail}
+use Rattle.cod_scenario.specs.declared.refusal.Refusal.TheVariants.{BadByte, AfterEnd, Word, Order, Count, Number, Field, Name, Twice, Unknown, Node, Data}
+use Rattle.cod_scenario.specs.declared.refusal.Refusal.TheVariants.{TooLarge, Room, NoEnd, TooLong}
+use Rattle.cod_script.specs.declared.line.What.{What}
+use Rattle.cod_script.specs.declared.line.What.TheVariants.{Segment, Fail}
 use Rattle.cod_scenario.specs.declared.said.Said.{Said}
 use Rattle.cod_scenario.specs.declared.said.Said.TheVariants as said
 use Rattle.cod_scenario.specs.declared.said.Keyword.{Keyword}
@@ -23,7 +25,7 @@ use Rattle.cod_scenario.specs.declared.refusal.LineError.{LineError}
 use Rattle.cod_scenario.specs.declared.refusal.LineError.TheVariants as errors
 use Rattle.cod_scenario.specs.declared.refusal.ScenarioError.{ScenarioError}
 use Rattle.cod_scenario.specs.declared.refusal.ScenarioError.TheVariants as scenario_errors
-use Rattle.cod_scenario.specs.Lines.{header_of, segments_of, clients_of, weight_of, has_room, bytes_of, floor_of}
+use Rattle.cod_scenario.specs.Lines.{header_of, segments_of, clients_of, weight_of, holds, bytes_of, floor_of}
 
 -- ---- reasons in their order
 
@@ -339,7 +341,7 @@ is_segment _ = false
 
 -- the segment of the line, if it is one, has room on its nodes
 abbrev pub is_placed : List Said → Said → Bool
-is_placed before line = not (is_segment line) || has_room (header_of before) (length (segments_of before) + 1)
+is_placed before line = not (is_segment line) || holds (header_of before) (length (segments_of before) + 1)
 
 -- the line, where it can still be carried
 unfoldable pub carried : List Said → Said → Result Said Refusal
@@ -356,6 +358,12 @@ is_plain_byte c = nat_le 32 c && nat_le c 126
 abbrev pub is_end : Option Said → Bool
 is_end (Some said.End) = true
 is_end _ = false
+
+-- a line of a client may come next
+abbrev pub is_among : Option Said → Bool
+is_among (Some (said.Client name)) = true
+is_among (Some (said.Does line what)) = true
+is_among _ = false
 
 -- what the words of a line say by themselves
 unfoldable pub words_mean : List Said → ℕ → List ℕ → List (List ℕ) → Result Said Refusal
@@ -409,15 +417,15 @@ pub record Heard : Type 0 where
   pub said : List Said
 
 -- What a function returned, seen by view, is what the definition gives, unless memory ran out.
-abbrev pub Fails : {Y : Type 0} → LineError → Result Y Refusal → Type 0
-Fails errors.OutOfMemory read = Unit {0}
-Fails (errors.Refused why) read = read ≡ Err why
+abbrev pub IsRefusal : {Y : Type 0} → LineError → Result Y Refusal → Type 0
+IsRefusal errors.OutOfMemory read = Unit {0}
+IsRefusal (errors.Refused why) read = read ≡ Err why
 
 abbrev pub Gives : {X Y : Type 0} → (X → Y) → Result X LineError → Result Y Refusal → Type 0
 Gives view (Ok x) read = read ≡ Ok (view x)
-Gives view (Err e) read = Fails e read
+Gives view (Err e) read = IsRefusal e read
 
 -- the same of lines: the number of the refused line goes with its reason
-abbrev pub FailsAt : {Y : Type 0} → ScenarioError → Result Y (ℕ × Refusal) → Type 0
-FailsAt scenario_errors.OutOfMemory read = Unit {0}
-FailsAt (scenario_errors.Refused line why) read = read ≡ Err (line, why)
+abbrev pub IsRefusalAt : {Y : Type 0} → ScenarioError → Result Y (ℕ × Refusal) → Type 0
+IsRefusalAt scenario_errors.OutOfMemory read = Unit {0}
+IsRefusalAt (scenario_errors.Refused line why) read = read ≡ Err (line, why)

@@ -1,14 +1,19 @@
 -- What a reader keeps beside the lines that it has read.
-use Rattle.std.specs.Prelude.{◌≡◌, ℕ, zero, suc, ◌≤◌, ◌<◌, ◌+◌, ◌^◌, min, List, [], ◌∷◌, ◌++◌, length, replicate, slice_index, true, false, nat_lt, if◌then◌else◌, Option, Some, None}
-use Rattle.std.specs.List.{All, list_any}
+use Rattle.std.specs.Prelude.{◌≡◌, ℕ, zero, suc, ◌≤◌, ◌<◌, ◌+◌, ◌-◌, ◌^◌, min, List, [], ◌∷◌, ◌++◌, length, replicate, slice_index}
+use Rattle.std.specs.Prelude.{true, false, nat_lt, if◌then◌else◌, Option, Some, None}
+use Rattle.std.specs.List.{All, AllByRecursion, list_any}
 use Rattle.std.specs.Str.{bytes_eq}
 use Rattle.cod_words.specs.Words.{is_name}
+use Rattle.cod_script.specs.Room.{taken_on}
+use Rattle.cod_script.specs.Script.{Body, Client}
+use Rattle.cod_script.specs.Sound.{AllDiffer, IsThere, IsClient, NumbersRise, line_count, line_numbers}
+use Rattle.cod_script.specs.Weight.{weight}
 use Rattle.cod_scenario.specs.declared.said.Said.TheVariants as said
 use Rattle.cod_scenario.specs.declared.said.Said.{Said}
 use Rattle.cod_scenario.specs.declared.said.Header.{Header}
-use Rattle.cod_scenario.specs.Sound.{AllDiffer, IsThere, IsClient, line_count}
-use Rattle.cod_scenario.specs.Judge.{last_of}
-use Rattle.cod_scenario.specs.Lines.{Parts, client_names, header_of, parts_of, no_parts, segments_of, clients_of, weight_of, noted, taken_on, bytes_of, floor_of}
+use Rattle.cod_scenario.specs.Judge.{is_placed, last_of}
+use Rattle.cod_scenario.specs.Lines.{client_names, header_of, body_of, no_body, segments_of, clients_of, weight_of, noted, shape_of, script_with, bytes_of}
+use Rattle.cod_scenario.specs.Lines.{floor_of}
 
 -- ---- the order of the lines
 
@@ -37,7 +42,7 @@ rank_of (said.Alpha a) = 7
 rank_of _ = 8
 
 -- there is a segment where clients may come, and a client where its lines may come
-abbrev pub HasSome : Option Said → Parts → Type 0
+abbrev pub HasSome : Option Said → Body → Type 0
 HasSome (Some (said.Segment name)) p = 1 ≤ length p.segments
 HasSome (Some (said.Client name)) p = (1 ≤ length p.segments) × (1 ≤ length p.clients)
 HasSome (Some (said.Does line what)) p = (1 ≤ length p.segments) × (1 ≤ length p.clients)
@@ -47,7 +52,7 @@ HasSome (Some said.End) p = (1 ≤ length p.segments) × (1 ≤ length p.clients
 HasSome _ p = Unit {0}
 
 -- what has to be there before this line
-abbrev pub Needs : Said → Parts → Type 0
+abbrev pub Needs : Said → Body → Type 0
 Needs (said.Client name) p = 1 ≤ length p.segments
 Needs (said.Does line what) p = (1 ≤ length p.segments) × (1 ≤ length p.clients)
 Needs (said.Care workers rounds) p = (1 ≤ length p.segments) × (1 ≤ length p.clients)
@@ -78,12 +83,37 @@ IsGood h segments clients (said.Care workers rounds) = (workers ≤ 16) × (roun
 IsGood h segments clients (said.Schedule turns) = All (λ turn. turn < clients) turns
 IsGood h segments clients said.End = Unit {0}
 
+-- all lines of clients have smaller numbers than this
+abbrev pub AreBefore : (line : ℕ) → List Client → Type 0
+AreBefore line clients = AllByRecursion (λ m. m < line) (line_numbers clients)
+
+-- a client's line has this number
+abbrev pub IsNumbered : (line : ℕ) → Said → Type 0
+IsNumbered line (said.Does number what) = number ≡ line
+IsNumbered line _ = Unit {0}
+
+-- the number of a client's line is greater than all before it
+abbrev pub IsLater : List Client → Said → Type 0
+IsLater clients (said.Does line what) = AreBefore line clients
+IsLater clients _ = Unit {0}
+
 -- a line that may stand after these, and whose words are good
 pub record Accepts (before : List Said) (s : Said) : Type 0 where
   pub order : place_of (last_of before) ≡ rank_of s
-  pub needs : HasSome (last_of before) (parts_of before) → Needs s (parts_of before)
+  pub needs : HasSome (last_of before) (body_of before) → Needs s (body_of before)
   pub fresh : IsFresh (segments_of before) (clients_of before) s
   pub good : IsGood (header_of before) (length (segments_of before)) (length (clients_of before)) s
+  pub later : IsLater (body_of before).clients s
+
+-- a line that is accepted, with this number
+pub record IsSaidAt (line : ℕ) (before : List Said) (s : Said) : Type 0 where
+  pub accepts : Accepts before s
+  pub numbered : IsNumbered line s
+
+-- and whose weight and room can be had
+pub record IsCarried (before : List Said) (s : Said) : Type 0 where
+  pub light : weight_of (before ++ s ∷ []) ≤ 268435456
+  pub placed : is_placed before s ≡ true
 
 -- ---- what is known of the lines that were accepted
 
@@ -124,13 +154,14 @@ IsHeader (suc (suc (suc (suc (suc (suc (suc zero))))))) h = United h
 IsHeader _ h = Ended h
 
 -- what is known of the lines after the header
-pub record ArePartsIn (nodes : ℕ) (p : Parts) : Type 0 where
+pub record IsBodyIn (nodes : ℕ) (p : Body) : Type 0 where
   pub most_segments : length p.segments ≤ 1024
   pub segment_names : All (λ name. is_name name ≡ true) p.segments
   pub segments_differ : AllDiffer p.segments
   pub most_clients : length p.clients ≤ 64
   pub clients : All (IsClient nodes (length p.segments)) p.clients
   pub clients_differ : AllDiffer (client_names p)
+  pub lines_rise : NumbersRise 0 (line_numbers p.clients)
   pub turns : All (λ turn. turn < length p.clients) p.schedule
   pub most_workers : p.workers ≤ 16
   pub most_rounds : p.rounds ≤ 65536
@@ -138,29 +169,33 @@ pub record ArePartsIn (nodes : ℕ) (p : Parts) : Type 0 where
 pub record IsSound (lines : List Said) : Type 0 where
   pub place : place_of (last_of lines) ≡ min (length lines) 8
   pub header : IsHeader (min (length lines) 8) (header_of lines)
-  pub bare : length lines ≤ 8 → parts_of lines ≡ no_parts
-  pub some : HasSome (last_of lines) (parts_of lines)
-  pub parts : ArePartsIn (header_of lines).nodes (parts_of lines)
+  pub bare : length lines ≤ 8 → body_of lines ≡ no_body
+  pub some : HasSome (last_of lines) (body_of lines)
+  pub body : IsBodyIn (header_of lines).nodes (body_of lines)
   pub count : 8 ≤ length lines
-      → line_count (parts_of lines).clients + (length (parts_of lines).segments + (length (parts_of lines).clients + 8)) ≤ length lines
+      → line_count (body_of lines).clients + (length (body_of lines).segments + (length (body_of lines).clients + 8)) ≤ length lines
+  pub weighed : weight (script_with (header_of lines) (body_of lines)) ≤ weight_of lines
+  pub light : weight_of lines ≤ 268435456
+  pub room : (x : ℕ) → x < (header_of lines).nodes
+      → taken_on (shape_of (header_of lines)) (header_of lines).nodes (length (segments_of lines)) x ≤ (header_of lines).capacity
 
 -- ---- the totals of a reader
 
 -- the running totals of so many segments
 abbrev pub Takes : List ℕ → Header → ℕ → Type 0
-Takes taken h segments = (x : ℕ) → x < h.nodes → slice_index taken x ≡ taken_on h segments x
+Takes taken h segments = (x : ℕ) → x < h.nodes → slice_index taken x ≡ taken_on (shape_of h) h.nodes segments x
 
 pub record Keeps (lines : ℕ) (accepted : List Said) (header : Header) (segments clients : List (List ℕ)) (weight : ℕ) (taken : List ℕ) : Type 0 where
   pub header_is : header ≡ header_of accepted
   pub segments_are : segments ≡ segments_of accepted
   pub clients_are : clients ≡ clients_of accepted
   pub weight_is : weight ≡ weight_of accepted
-  pub light : weight ≤ 268435456
   pub places : length taken ≡ 64
   pub empty : length accepted ≤ 8 → taken ≡ replicate 64 0
   pub room : Takes taken header (length segments)
   pub fewer : length accepted ≤ lines
-  pub most_lines : lines ≤ 2 ^ 24 + 1
+  pub most_lines : lines ≤ 2 ^ 32 - 2
+  pub numbers : AreBefore (lines + 1) (body_of accepted).clients
   pub sound : IsSound accepted
 
 -- w is the weight with one more line, or both are past the limit

@@ -6,11 +6,10 @@ ghost use Rattle.cod_scenario.specs.Judge;
 ghost use Rattle.cod_scenario.specs.Judge.{Gives};
 
 use crate::fields::{data, field, known, new_name, node, number};
-use crate::line::What;
-use crate::name::Name;
 use crate::names::Names;
 use crate::refusal::{LineError, Refusal};
 use crate::said::{Header, Keyword, Said, Turns, Verb};
+use cod_script::{Name, What};
 use cod_types::{Call, NodeId, SegId};
 use std::alloc::Global;
 

@@ -1,24 +1,27 @@
 //! A scenario, line by line.
-ghost use Rattle.std.specs.Prelude.{◌≡◌, ◌+◌, ◌<◌, ◌≤◌, ◌^◌, ◌++◌, ◌∷◌, [], map, length, MatchResult, IfOk, Ok, Err, ◌==◌, slice_index, true, false};
+ghost use Rattle.std.specs.Prelude.{◌≡◌, ◌+◌, ◌-◌, ◌<◌, ◌≤◌, ◌^◌, ◌++◌, ◌∷◌, [], map, length, MatchResult, IfOk, OnOk, Ok, Err, ◌==◌, slice_index, true, false};
 ghost use Rattle.std.specs.List.{list_all};
+ghost use Rattle.std.specs.Option.{option_copied};
 ghost use Rattle.cod_scenario.specs.Judge;
-ghost use Rattle.cod_scenario.specs.Judge.{Gives, Fails, Heard};
+ghost use Rattle.cod_scenario.specs.Judge.{Gives, IsRefusal, Heard};
 ghost use Rattle.cod_scenario.specs.Lines;
-ghost use Rattle.cod_scenario.specs.Lines.{header_of, segments_of, weight_of, parts_of};
+ghost use Rattle.cod_scenario.specs.Lines.{header_of, segments_of, weight_of, body_of, script_with, with_line};
 ghost use Rattle.cod_scenario.specs.Reads.{finished, IsRead};
-ghost use Rattle.cod_scenario.specs.Reading.{Accepts, IsFresh, AddsTo, Takes, with_segment, with_client, with_header};
+ghost use Rattle.cod_scenario.specs.Reading.{IsSound, Accepts, AreBefore, IsFresh, IsNumbered, AddsTo, Takes, with_segment, with_client, with_header};
 ghost use Rattle.cod_scenario.specs.declared.refusal.LineError.TheVariants as line_errors;
+ghost use Rattle.cod_scenario.specs.declared.said.Said.TheVariants.{Does};
+ghost use Rattle.cod_script.specs.Sound.{HasBytes, IsScenario, NamesNode};
+ghost use Rattle.cod_script.specs.declared.line.What.TheVariants.{Segment};
 
 use crate::fields::{follows, is_ended, keyword};
 use crate::kinds::rest_says;
 use crate::names::Names;
-use crate::parts::Parts;
 use crate::refusal::{LineError, Refusal, ScenarioError};
 use crate::room::{fits, take_room};
 use crate::said::{Header, Said};
-use crate::scenario::Scenario;
 use crate::weight::{line_weight, noted};
-use cod_types::OutOfMemory;
+use cod_script::{Body, Line, Scenario, What};
+use cod_types::{Call, Geometry, OutOfMemory, SegId};
 use cod_words::{trimmed, words};
 use std::alloc::Global;
 use std::marker::Model;
@@ -84,7 +87,7 @@ fn keep_header(lines: usize, header: &mut Header, said: &Said)
 fn keep_room(taken: &mut [u64], header: &Header, count: u32, said: &Said)
     requires nodes { Judge.is_segment said.now ≡ true → header.now.nodes ≤ length taken.old }
     requires so_far { Takes taken.old header.now count }
-    requires room { Judge.is_segment said.now ≡ true → Lines.has_room header.now (count + 1) ≡ true }
+    requires room { Judge.is_segment said.now ≡ true → Lines.holds header.now (count + 1) ≡ true }
     ensures grown { Judge.is_segment said.now ≡ true → Takes taken.new header.now (count + 1) }
     ensures kept { Judge.is_segment said.now ≡ false → taken.new ≡ taken.old }
     ensures len { length taken.new ≡ length taken.old }
@@ -94,15 +97,48 @@ fn keep_room(taken: &mut [u64], header: &Header, count: u32, said: &Said)
     }
 }
 
-/// What accepted lines say after the header.
-fn gathered(alloc: Global, said: Vec<Said>) -> Result<Parts, OutOfMemory>
-    ensures { IfOk result (λ p. p ≡ parts_of said.items) }
+/// What stands behind the header, with one line more.
+fn add(body: &mut Body, alloc: Global, said: Said) -> Result<(), OutOfMemory>
+    ensures { OnOk result (body.new ≡ with_line body.old said) }
 {
-    let mut parts = Parts::new(alloc);
-    for line in said {
-        parts.add(alloc, line)?;
+    match said {
+        Said::Segment(name) => body.push_segment(name),
+        Said::Client(name) => body.push_client(alloc, name),
+        Said::Does { line, what } => body.push_line(Line { line, what }),
+        Said::Care { workers, rounds } => {
+            body.set_care(workers, rounds);
+            Ok(())
+        }
+        Said::Schedule(turns) => body.push_turns(turns.as_slice()),
+        _ => Ok(()),
     }
-    Ok(parts)
+}
+
+/// What accepted lines say after the header.
+fn gathered(alloc: Global, said: Vec<Said>) -> Result<Body, OutOfMemory>
+    ensures { IfOk result (λ b. b ≡ body_of said.items) }
+{
+    let mut body = Body::new(alloc);
+    for line in said {
+        add(&mut body, alloc, line)?;
+    }
+    Ok(body)
+}
+
+/// The scenario of a header and of what stands behind it, without memory.
+fn scenario(h: &Header, body: Body) -> Scenario
+    requires { IsScenario (script_with h.now body) }
+    ensures { result ≡ script_with h.now body }
+{
+    let geometry = if h.version == 2 {
+        Geometry::new2(h.n, h.k, h.block, h.update, h.reserve, h.unit, h.alpha)
+    } else {
+        Geometry::new(h.n, h.k, h.block, h.update, h.reserve, h.unit, h.alpha)
+    };
+    let Ok(geometry) = geometry else {
+        unreachable!()
+    };
+    Scenario::new(geometry, h.nodes, h.capacity, body)
 }
 
 fn is_segment(said: &Said) -> bool
@@ -113,7 +149,7 @@ fn is_segment(said: &Said) -> bool
 
 impl Reader {
     /// A reader that has read no line.
-    #[tactic(auto, unfolding(crate::specs::Lines::header_of, crate::specs::Lines::parts_of, crate::specs::Lines::weight_of))]
+    #[tactic(auto, unfolding(crate::specs::Lines::header_of, crate::specs::Lines::body_of, crate::specs::Lines::weight_of))]
     pub fn new(alloc: Global) -> Reader
         ensures { result ≡ record { lines = 0; said = [] } }
     {
@@ -150,7 +186,7 @@ impl Reader {
     /// What the words say by themselves.
     #[tactic(auto, unfolding(crate::specs::Judge::words_mean))]
     fn meaning(&self, first: &[u8], rest: &[&[u8]]) -> Result<Said, LineError>
-        requires { self.now.lines < 2 ^ 24 + 1 }
+        requires { self.now.lines < 2 ^ 32 - 2 }
         ensures { Gives (λ x. x) result (Judge.words_mean self.now.said (self.now.lines + 1) first.now (map (λ w. w.now) rest.now)) }
     {
         if self.is_ended() {
@@ -212,8 +248,9 @@ impl Reader {
 
     /// Adds a line, which makes this weight.
     fn keep(&mut self, said: Said, weight: u32) -> Result<(), LineError>
-        requires line { self.old.lines < 2 ^ 24 + 1 }
+        requires line { self.old.lines < 2 ^ 32 - 2 }
         requires accepts { Accepts self.old.said said }
+        requires number { IsNumbered (self.old.lines + 1) said }
         requires carried { Judge.carried self.old.said said ≡ Ok said }
         requires weight { (weight ≡ weight_of (self.old.said ++ said ∷ [])) × (weight ≤ 268435456) }
         ensures { MatchResult result
@@ -235,10 +272,10 @@ impl Reader {
     /// no memory, leaves the reader as it was.
     #[tactic(auto, unfolding(crate::specs::Judge::line_says, crate::specs::Judge::all_say, crate::specs::Judge::words_say))]
     pub fn line(&mut self, text: &[u8]) -> Result<(), LineError>
-        requires { self.old.lines < 2 ^ 24 + 1 }
+        requires { self.old.lines < 2 ^ 32 - 2 }
         ensures { MatchResult result
             (λ _. (Judge.line_says self.old.said (self.old.lines + 1) text.now ≡ Ok self.new.said) × (self.new.lines ≡ self.old.lines + 1))
-            (λ e. Fails e (Judge.line_says self.old.said (self.old.lines + 1) text.now) × (self.new ≡ self.old)) }
+            (λ e. IsRefusal e (Judge.line_says self.old.said (self.old.lines + 1) text.now) × (self.new ≡ self.old)) }
     {
         let text = trimmed(text);
         if !is_plain(text) {
@@ -251,6 +288,48 @@ impl Reader {
             return Ok(());
         }
         let said = self.meaning(ws[0], &ws[1..])?;
+        let weight = self.carried(&said)?;
+        self.keep(said, weight)?;
+        Ok(())
+    }
+
+    /// The line that came last, of those that say something.
+    pub fn last(&self) -> Option<&Said>
+        ensures { option_copied result ≡ Judge.last_of self.now.said }
+    {
+        self.said.last()
+    }
+
+    /// The numbers of the header so far.
+    pub fn header(&self) -> &Header
+        ensures value { result.now ≡ header_of self.now.said }
+        ensures sound { IsSound self.now.said }
+    {
+        &self.header
+    }
+
+    /// The names of the segments so far.
+    pub fn segments(&self) -> &Names
+        ensures { result.now ≡ segments_of self.now.said }
+    {
+        &self.segments
+    }
+
+    /// Takes a call of a segment for the next line of the client that came last. It is refused exactly where a line that says
+    /// so is: where it makes the run too large.
+    pub fn call(&mut self, seg: SegId, call: Call) -> Result<(), LineError>
+        requires line { self.old.lines < 2 ^ 32 - 2 }
+        requires among { Judge.is_among (Judge.last_of self.old.said) ≡ true }
+        requires there { (seg.0 < length (segments_of self.old.said)) × NamesNode (header_of self.old.said).nodes call }
+        ensures { let s = Does (self.old.lines + 1) (Segment seg call) in MatchResult result
+            (λ _. (Judge.carried self.old.said s ≡ Ok s) × (self.new ≡ record { lines = self.old.lines + 1; said = self.old.said ++ s ∷ [] }))
+            (λ e. IsRefusal e (Judge.carried self.old.said s) × (self.new ≡ self.old)) }
+    {
+        look_at(&call);
+        let said = Said::Does {
+            line: self.lines + 1,
+            what: What::Segment { seg, call },
+        };
         let weight = self.carried(&said)?;
         self.keep(said, weight)?;
         Ok(())
@@ -273,7 +352,23 @@ impl Reader {
             header,
             ..
         } = self;
-        Ok(Scenario::of(&header, gathered(alloc, said)?))
+        Ok(scenario(&header, gathered(alloc, said)?))
+    }
+}
+
+/// The bytes of a call are bytes.
+fn look_at(call: &Call)
+    ensures { HasBytes call.now }
+{
+    match call {
+        Call::Write { bytes, .. } | Call::Put { bytes } => {
+            let _bytes = bytes.as_slice();
+        }
+        Call::Swap { old, new, .. } => {
+            let _old = old.as_slice();
+            let _new = new.as_slice();
+        }
+        _ => {}
     }
 }
 

@@ -2,12 +2,12 @@
 ghost use Rattle.std.specs.Prelude.{◌≡◌, ◌+◌, ◌≤◌, ◌^◌, [], length, MatchResult, Ok, Err};
 ghost use Rattle.cod_words.specs.Words.{lines_of};
 ghost use Rattle.cod_scenario.specs.Judge;
-ghost use Rattle.cod_scenario.specs.Judge.{FailsAt};
+ghost use Rattle.cod_scenario.specs.Judge.{IsRefusalAt};
 ghost use Rattle.cod_scenario.specs.Reads.{reads, IsRead};
 
 use crate::reader::Reader;
 use crate::refusal::{LineError, Refusal, ScenarioError};
-use crate::scenario::Scenario;
+use cod_script::Scenario;
 use cod_words::next_line;
 use std::alloc::Global;
 
@@ -19,7 +19,7 @@ fn all_lines(alloc: Global, text: &[u8]) -> Result<Reader, ScenarioError>
     requires { length text.now ≤ 2 ^ 24 }
     ensures { MatchResult result
         (λ r. (Judge.lines_say [] 1 (lines_of text.now) ≡ Ok r.said) × (r.lines ≡ length (lines_of text.now)))
-        (λ e. FailsAt e (Judge.lines_say [] 1 (lines_of text.now))) }
+        (λ e. IsRefusalAt e (Judge.lines_say [] 1 (lines_of text.now))) }
 {
     let mut reader = Reader::new(alloc);
     let mut line = 0u32;
@@ -36,17 +36,15 @@ fn all_lines(alloc: Global, text: &[u8]) -> Result<Reader, ScenarioError>
     Ok(reader)
 }
 
-impl Scenario {
-    /// The scenario of a text. It is refused exactly where the text is none, by the first line that may not stand where it
-    /// does and by the first reason against that line; as line 0 where it has more than 2^24 bytes.
-    #[tactic(auto, unfolding(crate::specs::Judge::text_says))]
-    pub fn read(alloc: Global, text: &[u8]) -> Result<Scenario, ScenarioError>
-        ensures { IsRead result (reads text.now) }
-    {
-        if MOST_BYTES < text.len() {
-            let why = Refusal::TooLong;
-            return Err(ScenarioError::Refused { line: 0, why });
-        }
-        all_lines(alloc, text)?.finish()
+/// The scenario of a text. It is refused exactly where the text is none, by the first line that may not stand where it
+/// does and by the first reason against that line; as line 0 where it has more than 2^24 bytes.
+#[tactic(auto, unfolding(crate::specs::Judge::text_says))]
+pub fn read(alloc: Global, text: &[u8]) -> Result<Scenario, ScenarioError>
+    ensures { IsRead result (reads text.now) }
+{
+    if MOST_BYTES < text.len() {
+        let why = Refusal::TooLong;
+        return Err(ScenarioError::Refused { line: 0, why });
     }
+    all_lines(alloc, text)?.finish()
 }

@@ -33,6 +33,8 @@ pub enum Refusal {
     Node,
     /// A word is no bytes.
     Data,
+    /// A file call's range passes the file's end.
+    Beyond,
     /// The run would move too many bytes.
     TooLarge,
     /// A column of the segment has no room on its node.

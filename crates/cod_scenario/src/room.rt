@@ -1,14 +1,15 @@
 //! How many bytes segments take on the nodes.
 ghost use Rattle.std.specs.Prelude.{◌≡◌, ◌+◌, ◌<◌, ◌≤◌, ◌^◌, length, true};
-ghost use Rattle.cod_scenario.specs.Lines;
-ghost use Rattle.cod_scenario.specs.Lines.{has_room};
+ghost use Rattle.cod_scenario.specs.Lines.{holds, shape_of};
 ghost use Rattle.cod_scenario.specs.Reading.{Takes};
+ghost use Rattle.cod_script.specs.Room;
+ghost use Rattle.cod_types.specs.Columns.{column_size};
 
 use crate::said::Header;
 
 /// How many bytes column `i` takes.
-fn column_bytes(h: &Header, i: u8) -> u64
-    ensures value { result ≡ Lines.column_bytes h.now i }
+fn bytes_of_column(h: &Header, i: u8) -> u64
+    ensures value { result ≡ column_size (shape_of h.now) i }
     ensures bound { result < 2 ^ 33 }
 {
     if i < h.k {
@@ -19,24 +20,24 @@ fn column_bytes(h: &Header, i: u8) -> u64
 }
 
 /// How many bytes column `i` of segment `s` takes on node `x`.
-#[tactic(auto, unfolding(crate::specs::Lines::column_on))]
+#[tactic(auto, unfolding(cod_script::specs::Room::column_on))]
 fn column_on(h: &Header, x: u8, s: u32, i: u8) -> u64
     requires { 0 < h.now.nodes }
-    ensures value { result ≡ Lines.column_on h.now x s i }
+    ensures value { result ≡ Room.column_on (shape_of h.now) h.now.nodes x s i }
     ensures bound { result < 2 ^ 33 }
 {
     if (u64::from(s) + u64::from(i)) % u64::from(h.nodes) == u64::from(x) {
-        column_bytes(h, i)
+        bytes_of_column(h, i)
     } else {
         0
     }
 }
 
 /// How many bytes segment `s` takes on node `x`.
-#[tactic(auto, using(crate::proofs::RoomSums::sum_more), unfolding(crate::specs::Lines::taken_by))]
+#[tactic(auto, using(cod_script::proofs::RoomSums::sum_more), unfolding(cod_script::specs::Room::taken_by))]
 fn taken_by(h: &Header, x: u8, s: u32) -> u64
     requires { 0 < h.now.nodes }
-    ensures value { result ≡ Lines.taken_by h.now x s }
+    ensures value { result ≡ Room.taken_by (shape_of h.now) h.now.nodes x s }
     ensures bound { result < 2 ^ 41 }
 {
     let mut sum = 0u64;
@@ -50,7 +51,7 @@ fn taken_by(h: &Header, x: u8, s: u32) -> u64
 pub fn fits(taken: &[u64], h: &Header, s: u32) -> bool
     requires nodes { h.now.nodes ≤ length taken.now }
     requires so_far { Takes taken.now h.now s }
-    ensures { result ≡ has_room h.now (s + 1) }
+    ensures { result ≡ holds h.now (s + 1) }
 {
     for x in 0..h.nodes {
         let total = taken[x as usize].saturating_add(taken_by(h, x, s));
@@ -65,7 +66,7 @@ pub fn fits(taken: &[u64], h: &Header, s: u32) -> bool
 pub fn take_room(taken: &mut [u64], h: &Header, s: u32)
     requires nodes { h.now.nodes ≤ length taken.old }
     requires so_far { Takes taken.old h.now s }
-    requires room { has_room h.now (s + 1) ≡ true }
+    requires room { holds h.now (s + 1) ≡ true }
     ensures takes { Takes taken.new h.now (s + 1) }
     ensures len { length taken.new ≡ length taken.old }
 {

@@ -1,8 +1,7 @@
 //! What one line says.
 ghost use Rattle.std.specs.Prelude.{◌≡◌};
 
-use crate::line::What;
-use crate::name::Name;
+use cod_script::{Name, What};
 use std::marker::Model;
 
 /// The words that a line can begin with.

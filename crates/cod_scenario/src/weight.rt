@@ -1,22 +1,24 @@
 //! What a line adds to the weight.
 ghost use Rattle.std.specs.Prelude.{◌≡◌, ◌+◌, ◌<◌, ◌^◌};
 ghost use Rattle.cod_scenario.specs.Lines;
+ghost use Rattle.cod_scenario.specs.Lines.{shape_of};
+ghost use Rattle.cod_script.specs.Weight;
 
-use crate::line::What;
 use crate::said::{Header, Said};
+use cod_script::What;
 use cod_types::Call;
 
 /// The bytes of a region with its reserve.
 fn region(h: &Header) -> u128
-    ensures value { result ≡ h.now.block + h.now.reserve }
+    ensures value { result ≡ Weight.region (shape_of h.now) }
     ensures bound { result < 2 ^ 33 }
 {
     u128::from(h.block) + u128::from(h.reserve)
 }
 
-#[tactic(auto, unfolding(crate::specs::Lines::call_weight))]
-pub fn call_weight(h: &Header, call: &Call) -> u128
-    ensures { result ≡ Lines.call_weight h.now call.now }
+#[tactic(auto, unfolding(cod_script::specs::Weight::call_weight))]
+fn call_weight(h: &Header, call: &Call) -> u128
+    ensures { result ≡ Weight.call_weight (shape_of h.now) call.now }
 {
     match call {
         Call::Read { off, len } => {
@@ -36,7 +38,7 @@ pub fn call_weight(h: &Header, call: &Call) -> u128
     }
 }
 
-#[tactic(auto, unfolding(crate::specs::Lines::line_weight))]
+#[tactic(auto, unfolding(crate::specs::Lines::line_weight, cod_script::specs::Weight::what_weight))]
 pub fn line_weight(h: &Header, said: &Said) -> u128
     ensures { result ≡ Lines.line_weight h.now said.now }
 {

@@ -1,5 +1,6 @@
 -- An entry read back from its words.
-use Rattle.std.proofs.Common.{◌≡◌, ◌≢◌, ℕ, suc, ◌+◌, ◌%◌, ◌<◌, ◌≤◌, ◌^◌, Bool, true, false, cond, eqb, Some, Result, Ok, Err, List, [], ◌∷◌, ◌++◌, length, map, drop, get_or, refl, sym, ap, ◌∙◌, inl, inr, arith}
+use Rattle.std.proofs.Common.{◌≡◌, ◌≢◌, ℕ, suc, ◌+◌, ◌%◌, ◌<◌, ◌≤◌, ◌^◌, Bool, true, false, cond, eqb, Some, Result, Ok, Err, List, [], ◌∷◌, ◌++◌, length, map, drop, get_or, refl, sym, ap, ◌∙◌, inl}
+use Rattle.std.proofs.Common.{inr, arith}
 use Rattle.std.specs.Prelude.{codes, decimal, slice_get}
 use Rattle.std.specs.List.{AllByRecursion}
 use Rattle.std.specs.Str.Parse.{digits_value}
@@ -24,7 +25,7 @@ use Rattle.cod_chronicle.specs.Said.{stamp_of}
 use Rattle.cod_chronicle.specs.Order.{Placed, place, placed, placed_from, order}
 use Rattle.cod_chronicle.proofs.Orders.{Each-append, Each-weaker, Each-by_stamp}
 use Rattle.cod_chronicle.proofs.Merging.{same_chronicles}
-use Rattle.cod_scenario.specs.Plan.{Plan}
+use Rattle.cod_script.specs.Script.{Script}
 use Rattle.cod_print.specs.Pieces.{hex_word}
 use Rattle.cod_text.specs.Printed.{call_words, why_text, reason_word, reply_words, cause_words, segment_word, caller_word, what_words, entry_words}
 use Rattle.cod_text.specs.Unique.{IsWord, Fits, CallFits, WhyFits, ReplyFits, CauseFits, EntryFits, IsReadOneWay}
@@ -200,7 +201,7 @@ same_word [] (y ∷ v) e = cc
 same_word (x ∷ w) [] e = cc
 same_word (x ∷ w) (y ∷ v) e = same_from x y w v (same_word w v) (eqb x y) refl e
 
-entry_back : (x : Plan) (e : Entry) → HasWords x → EntryFits e → what_from (stamp_of e) (caller_of e) (what_words x e) ≡ e
+entry_back : (x : Script) (e : Entry) → HasWords x → EntryFits e → what_from (stamp_of e) (caller_of e) (what_words x e) ≡ e
 entry_back x (Call caller number stamp call reply) N h =
     let f : same (caller_word x caller.0) (61 ∷ []) ≡ false =
     elim (cases_Bool (same (caller_word x caller.0) (61 ∷ []))) [ inl t ↦ absurd (N.no_mark caller.0 (same_word (caller_word x caller.0) (61 ∷ []) t)) | inr g ↦ g ] in
@@ -218,8 +219,9 @@ stamp_fits (Down stamp col node cause) h = h.0
 stamp_fits (Up stamp col node) h = h.0
 stamp_fits (Move stamp col node) h = h.0
 
-callers_same : (x : Plan) (e f : Entry) → HasWords x → EntryFits e → EntryFits f → what_words x e ≡ what_words x f → caller_of e ≡ caller_of f
-callers_same x (Call caller number stamp call reply) (Call caller' number' stamp' call' reply') N h g e = (let w : caller_word x caller.0 ≡ caller_word x caller'.0 = cc in N.callers caller.0 caller'.0 h.1.0 g.1.0 w)
+callers_same : (x : Script) (e f : Entry) → HasWords x → EntryFits e → EntryFits f → what_words x e ≡ what_words x f → caller_of e ≡ caller_of f
+callers_same x (Call caller number stamp call reply) (Call caller' number' stamp' call' reply') N h g e =
+    (let w : caller_word x caller.0 ≡ caller_word x caller'.0 = cc in N.callers caller.0 caller'.0 h.1.0 g.1.0 w)
 callers_same x (Call caller number stamp call reply) (Down stamp' col' node' cause') N h g e = (let w : caller_word x caller.0 ≡ 61 ∷ [] = cc in absurd (N.no_mark caller.0 w))
 callers_same x (Call caller number stamp call reply) (Up stamp' col' node') N h g e = (let w : caller_word x caller.0 ≡ 61 ∷ [] = cc in absurd (N.no_mark caller.0 w))
 callers_same x (Call caller number stamp call reply) (Move stamp' col' node') N h g e = (let w : caller_word x caller.0 ≡ 61 ∷ [] = cc in absurd (N.no_mark caller.0 w))
@@ -237,7 +239,8 @@ callers_same x (Move stamp col node) (Up stamp' col' node') N h g e = refl
 callers_same x (Move stamp col node) (Move stamp' col' node') N h g e = refl
 
 -- equal words are of equal entries
-placed_same : (x : Plan) (n : ℕ) → n ≡ length x.segments → HasWords x → (p q : Placed) → (p.segment < n) × EntryFits p.entry → (q.segment < n) × EntryFits q.entry → entry_words x p ≡ entry_words x q → p ≡ q
+placed_same : (x : Script) (n : ℕ) → n ≡ length x.segments → HasWords x → (p q : Placed) → (p.segment < n) × EntryFits p.entry → (q.segment < n) × EntryFits q.entry
+    → entry_words x p ≡ entry_words x q → p ≡ q
 placed_same x n len N p q h g e =
     let stamps : decimal (stamp_of p.entry) ≡ decimal (stamp_of q.entry) = cc in
     let segments : segment_word x p.segment ≡ segment_word x q.segment = cc in
@@ -301,15 +304,24 @@ cause_is_words : (c : Cause) → CauseFits c → AllByRecursion IsWord (cause_wo
 cause_is_words (Killed line) h = (word_from (codes "killed") refl, (IsWord-decimal line h, tt))
 cause_is_words (Fault count) h = (word_from (codes "fault") refl, (IsWord-decimal count h, tt))
 
-what_is_words : (x : Plan) (e : Entry) → HasWords x → EntryFits e → AllByRecursion IsWord (what_words x e)
-what_is_words x (Call caller number stamp call reply) N h =
-    (N.caller caller.0 h.1.0, (IsWord-decimal number h.1.1.0, Each-append IsWord (call_words call) (codes "->" ∷ reply_words reply) (call_is_words call h.1.1.1.0) (word_from (codes "->") refl, reply_is_words reply h.1.1.1.1)))
+what_is_words : (x : Script) (e : Entry) → HasWords x → EntryFits e → AllByRecursion IsWord (what_words x e)
+what_is_words x (Call caller number stamp call reply) N h = (
+  N.caller caller.0 h.1.0,
+  (
+    IsWord-decimal number h.1.1.0,
+    Each-append IsWord (call_words call) (codes "->" ∷ reply_words reply) (call_is_words call h.1.1.1.0) (
+      word_from
+          (codes "->") refl,
+      reply_is_words reply h.1.1.1.1,
+    ),
+  ),
+)
 what_is_words x (Down stamp col node cause) N h =
     (word_from (codes "=") refl, (word_from (codes "down") refl, (IsWord-decimal col h.1.0, (IsWord-decimal node.0 h.1.1.0, cause_is_words cause h.1.1.1))))
 what_is_words x (Up stamp col node) N h = (word_from (codes "=") refl, (word_from (codes "up") refl, (IsWord-decimal col h.1.0, (IsWord-decimal node.0 h.1.1, tt))))
 what_is_words x (Move stamp col node) N h = (word_from (codes "=") refl, (word_from (codes "move") refl, (IsWord-decimal col h.1.0, (IsWord-decimal node.0 h.1.1, tt))))
 
-entry_is_words : (x : Plan) (p : Placed) → HasWords x → EntryFits p.entry → AllByRecursion IsWord (entry_words x p)
+entry_is_words : (x : Script) (p : Placed) → HasWords x → EntryFits p.entry → AllByRecursion IsWord (entry_words x p)
 entry_is_words x p N h = (IsWord-decimal (stamp_of p.entry) (stamp_fits p.entry h), (N.segment p.segment, what_is_words x p.entry N h))
 
 -- the segment numbers
@@ -342,7 +354,8 @@ read_one_way x hs ks names H K e =
     let P : Placed → Type 0 = λ p. (p.segment < n) × EntryFits p.entry in
     let a : AllByRecursion P (order hs) = Each-by_stamp P (placed hs) (both (λ p. p.segment < n) (λ p. EntryFits p.entry) (placed hs) (within 0 n hs (omega arith)) H.fit) in
     let b : AllByRecursion P (order ks) = Each-by_stamp P (placed ks) (both (λ p. p.segment < n) (λ p. EntryFits p.entry) (placed ks) (within 0 n ks (omega arith)) K.fit) in
-    let w : (ps : List Placed) → AllByRecursion P ps → AllByRecursion (λ p. AllByRecursion IsWord (entry_words x p)) ps = λ ps h. Each-weaker P (λ p. AllByRecursion IsWord (entry_words x p)) (λ p f. entry_is_words x p N f.1) ps h in
+    let w : (ps : List Placed) → AllByRecursion P ps → AllByRecursion (λ p. AllByRecursion IsWord (entry_words x p)) ps = λ ps h. Each-weaker P (λ p. AllByRecursion IsWord (entry_words x p))
+    (λ p f. entry_is_words x p N f.1) ps h in
     let m = lines_same (λ p. decimal (stamp_of p.entry)) (λ p. segment_word x p.segment ∷ what_words x p.entry) (order hs) (order ks) (w (order hs) a) (w (order ks) b) e in
     let o = map_same (λ p. entry_words x p) P (placed_same x n refl N) (order hs) (order ks) a b m in
     lists_same hs ks (omega arith) (same_chronicles hs ks (omega arith) H.rise K.rise o)

@@ -5,3 +5,4 @@ pub mod Splits
 pub mod Names
 pub mod Back
 pub mod ScenarioNames
+pub mod Taken

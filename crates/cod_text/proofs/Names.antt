@@ -4,13 +4,13 @@ use Rattle.std.specs.Prelude.{decimal}
 use Rattle.std.specs.List.{AllByRecursion}
 use Rattle.std.proofs.lemmas.Bool.{lt-ltb, le-ltb, cases_lt}
 use Rattle.std.proofs.lemmas.Fmt.{decimal_injective}
-use Rattle.cod_scenario.specs.Plan.{Plan, nobody}
+use Rattle.cod_script.specs.Script.{Script, nobody}
 use Rattle.cod_text.specs.Printed.{segment_word, caller_word}
 use Rattle.cod_text.specs.Unique.{IsWord, IsName, HasNames}
 use Rattle.cod_text.proofs.Splits.{IsWord-decimal}
 
 -- The words of segments and callers are words, all different, and none is `=`.
-pub record HasWords (x : Plan) : Type 0 where
+pub record HasWords (x : Script) : Type 0 where
   pub segment : (s : ℕ) → IsWord (segment_word x s)
   pub caller : (c : ℕ) → c < 2 ^ 64 → IsWord (caller_word x c)
   pub segments : (s t : ℕ) → s < length x.segments → t < length x.segments → segment_word x s ≡ segment_word x t → s ≡ t
@@ -31,10 +31,10 @@ begins : (w v : List ℕ) (c : ℕ) → c < 97 → IsName w → w ≢ c ∷ v
 begins [] v c l h e = absurd h
 begins (d ∷ w) v c l h e = (let s : d ≡ c = cc in let m = h.0 in absurd (omega arith))
 
-client_name : (x : Plan) (c : ℕ) → c < length x.clients → caller_word x c ≡ (get_or x.clients c nobody).name
+client_name : (x : Script) (c : ℕ) → c < length x.clients → caller_word x c ≡ (get_or x.clients c nobody).name
 client_name x c l = ap (λ (b : Bool). cond b (get_or x.clients c nobody).name (43 ∷ decimal (c - length x.clients))) (lt-ltb c (length x.clients) l)
 
-worker_name : (x : Plan) (c : ℕ) → length x.clients ≤ c → caller_word x c ≡ 43 ∷ decimal (c - length x.clients)
+worker_name : (x : Script) (c : ℕ) → length x.clients ≤ c → caller_word x c ≡ 43 ∷ decimal (c - length x.clients)
 worker_name x c l = ap (λ (b : Bool). cond b (get_or x.clients c nobody).name (43 ∷ decimal (c - length x.clients))) (le-ltb c (length x.clients) l)
 
 segment_is_word : (ws : List (List ℕ)) (s : ℕ) → AllByRecursion IsName ws → IsWord (get_or ws s [])
@@ -42,7 +42,7 @@ segment_is_word [] s a = tt
 segment_is_word (w ∷ ws) zero a = name_is_word w a.0
 segment_is_word (w ∷ ws) (suc s) a = segment_is_word ws s a.1
 
-module _ (x : Plan) (N : HasNames x) where
+module _ (x : Script) (N : HasNames x) where
   name_at : (c : ℕ) → c < length x.clients → IsName (get_or x.clients c nobody).name
   name_at c l = each_at (λ k. IsName k.name) x.clients c nobody N.clients l
 

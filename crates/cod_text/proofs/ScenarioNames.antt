@@ -7,8 +7,8 @@ use Rattle.std.proofs.lemmas.Bool.Decides.{nat_tests}
 use Rattle.std.proofs.lemmas.List.{get_or-map, length-map}
 use Rattle.std.proofs.lemmas.List.Elements.{All-tail}
 use Rattle.cod_words.specs.Words.{is_name, is_name_byte, is_letter}
-use Rattle.cod_scenario.specs.Plan.{Client, nobody}
-use Rattle.cod_scenario.specs.Sound.{IsClient}
+use Rattle.cod_script.specs.Script.{Client, nobody}
+use Rattle.cod_script.specs.Sound.{IsClient}
 use Rattle.cod_text.specs.Unique.{IsWord, IsName, ScenarioHasNames}
 
 seen : (c : ℕ) → is_name_byte c ≡ true → 33 ≤ c

@@ -58,9 +58,11 @@ pub lines_same : {X : Type 0} (head : X → List ℕ) (tail : X → List (List �
     → map (λ x. head x ∷ tail x) xs ≡ map (λ x. head x ∷ tail x) ys
 lines_same head tail [] [] a b e = refl
 lines_same head tail [] (y ∷ ys) a b e =
-    absurd (none_inside 10 [] (join_with_byte 32 (head y ∷ tail y)) (flat_map (λ x. line_of (head x ∷ tail x)) ys) tt (e ∙ append_assoc (join_with_byte 32 (head y ∷ tail y)) (10 ∷ []) (flat_map (λ x. line_of (head x ∷ tail x)) ys)))
+    absurd (none_inside 10 [] (join_with_byte 32 (head y ∷ tail y)) (flat_map (λ x. line_of (head x ∷ tail x)) ys) tt (e ∙ append_assoc (join_with_byte 32 (head y ∷ tail y)) (10 ∷ []) (flat_map
+    (λ x. line_of (head x ∷ tail x)) ys)))
 lines_same head tail (x ∷ xs) [] a b e =
-    absurd (none_inside 10 [] (join_with_byte 32 (head x ∷ tail x)) (flat_map (λ x. line_of (head x ∷ tail x)) xs) tt (sym e ∙ append_assoc (join_with_byte 32 (head x ∷ tail x)) (10 ∷ []) (flat_map (λ x. line_of (head x ∷ tail x)) xs)))
+    absurd (none_inside 10 [] (join_with_byte 32 (head x ∷ tail x)) (flat_map (λ x. line_of (head x ∷ tail x)) xs) tt (sym e ∙ append_assoc (join_with_byte 32 (head x ∷ tail x)) (10 ∷ []) (flat_map
+    (λ x. line_of (head x ∷ tail x)) xs)))
 lines_same head tail (x ∷ xs) (y ∷ ys) a b e =
     let f = flat_map (λ x. line_of (head x ∷ tail x)) xs in
     let g = flat_map (λ x. line_of (head x ∷ tail x)) ys in

@@ -1,5 +1,6 @@
 -- The texts that are printed of a run: its chronicles, its columns and its nodes.
-use Rattle.std.specs.Prelude.{ℕ, Bool, true, false, Option, Some, None, ◌-◌, nat_lt, if◌then◌else◌, List, [], ◌∷◌, ◌++◌, length, map, codes, decimal, slice_index_or}
+use Rattle.std.specs.Prelude.{ℕ, Bool, true, false, Option, Some, None, ◌-◌, nat_lt, if◌then◌else◌, List, [], ◌∷◌, ◌++◌, length, map, codes, decimal}
+use Rattle.std.specs.Prelude.{slice_index_or}
 use Rattle.std.specs.List.{flat_map, join_with_byte}
 use Rattle.cod_print.specs.Pieces.{hex_word}
 use Rattle.cod_types.specs.declared.call.Call.{Call as Asked}
@@ -17,7 +18,7 @@ use Rattle.cod_chronicle.specs.Said.{stamp_of}
 use Rattle.cod_chronicle.specs.Order.{Placed, order}
 use Rattle.cod_types.specs.declared.layout.LayoutLine.{LayoutLine}
 use Rattle.cod_types.specs.declared.layout.ParityLine.{ParityLine}
-use Rattle.cod_scenario.specs.Plan.{Plan, nobody}
+use Rattle.cod_script.specs.Script.{Script, nobody}
 
 -- words with a space between two of them, and the line's end
 abbrev pub line_of : List (List ℕ) → List ℕ
@@ -61,30 +62,30 @@ cause_words (Killed line) = codes "killed" ∷ decimal line ∷ []
 cause_words (Fault count) = codes "fault" ∷ decimal count ∷ []
 
 -- a segment's name
-abbrev pub segment_word : Plan → ℕ → List ℕ
+abbrev pub segment_word : Script → ℕ → List ℕ
 segment_word x s = slice_index_or x.segments s []
 
 -- a client's name, or +W for a care worker
-abbrev pub caller_word : Plan → ℕ → List ℕ
+abbrev pub caller_word : Script → ℕ → List ℕ
 caller_word x who =
     if nat_lt who (length x.clients) then (slice_index_or x.clients who nobody).name
     else 43 ∷ decimal (who - length x.clients)
 
 -- an entry behind its stamp and segment
-abbrev pub what_words : Plan → Entry → List (List ℕ)
+abbrev pub what_words : Script → Entry → List (List ℕ)
 what_words x (Call caller number stamp call reply) = caller_word x caller.0 ∷ decimal number ∷ (call_words call ++ codes "->" ∷ reply_words reply)
 what_words x (Down stamp col node cause) = codes "=" ∷ codes "down" ∷ decimal col ∷ decimal node.0 ∷ cause_words cause
 what_words x (Up stamp col node) = codes "=" ∷ codes "up" ∷ decimal col ∷ decimal node.0 ∷ []
 what_words x (Move stamp col node) = codes "=" ∷ codes "move" ∷ decimal col ∷ decimal node.0 ∷ []
 
-abbrev pub entry_words : Plan → Placed → List (List ℕ)
+abbrev pub entry_words : Script → Placed → List (List ℕ)
 entry_words x p = decimal (stamp_of p.entry) ∷ segment_word x p.segment ∷ what_words x p.entry
 
-abbrev pub line_text : Plan → Placed → List ℕ
+abbrev pub line_text : Script → Placed → List ℕ
 line_text x p = line_of (entry_words x p)
 
 -- a line for each entry, by stamp, segment and place
-abbrev pub chronicle_text : Plan → List (List Entry) → List ℕ
+abbrev pub chronicle_text : Script → List (List Entry) → List ℕ
 chronicle_text x hs = flat_map (λ p. line_text x p) (order hs)
 
 abbrev pub state_word : Bool → List ℕ
@@ -97,7 +98,7 @@ parity_words None = []
 parity_words (Some p) = codes "used" ∷ decimal p.used ∷ codes "avg" ∷ decimal p.avg ∷ []
 
 -- the line of a column
-abbrev pub layout_text : Plan → LayoutLine → List ℕ
+abbrev pub layout_text : Script → LayoutLine → List ℕ
 layout_text x l =
     line_of (codes "layout" ∷ segment_word x l.seg.0 ∷ decimal l.col ∷ decimal l.node.0 ∷ state_word l.up ∷ codes "len" ∷ decimal l.len
     ∷ (parity_words l.parity ++ codes "reads" ∷ decimal l.reads ∷ codes "writes" ∷ decimal l.writes ∷ []))

@@ -1,4 +1,5 @@
 -- The summary of a run: how many calls, replies and marks of each kind its chronicles have, and how many bytes were moved.
+-- Each number stays at 2^64 - 1 once it is there.
 use Rattle.std.specs.Prelude.{ℕ, ◌+◌, ◌-◌, ◌^◌, ◌==◌, min, if◌then◌else◌, List, [], ◌∷◌, ◌++◌, length, codes, decimal}
 use Rattle.std.specs.List.{fold, flat_map}
 use Rattle.cod_types.specs.Faults.{bump}
@@ -8,38 +9,9 @@ use Rattle.cod_types.specs.declared.call.Reply.{Reply}
 use Rattle.cod_types.specs.declared.call.Reply.TheVariants.{Bytes, Done, Range, Long, Lost, Whole, Rebuilt, NoSpare, NoMem, Differs, Shifted, Clear}
 use Rattle.cod_chronicle.specs.declared.entry.Entry.{Entry}
 use Rattle.cod_chronicle.specs.declared.entry.Entry.TheVariants.{Call, Down, Up, Move}
-use Rattle.cod_text.specs.Printed.{line_of}
+use Rattle.cod_text.specs.declared.tally.Tally.{Tally}
 
--- Each number stays at 2^64 - 1 once it is there.
-pub record Tally : Type 0 where
-  pub calls : ℕ
-  pub reads : ℕ
-  pub writes : ℕ
-  pub swaps : ℕ
-  pub puts : ℕ
-  pub merges : ℕ
-  pub ticks : ℕ
-  pub rebuilds : ℕ
-  pub upgrades : ℕ
-  pub drains : ℕ
-  pub bytes : ℕ
-  pub done : ℕ
-  pub range : ℕ
-  pub long : ℕ
-  pub lost : ℕ
-  pub whole : ℕ
-  pub rebuilt : ℕ
-  pub no_spare : ℕ
-  pub no_memory : ℕ
-  pub differs : ℕ
-  pub shifted : ℕ
-  pub clear : ℕ
-  pub downs : ℕ
-  pub ups : ℕ
-  pub moves : ℕ
-  pub bytes_read : ℕ
-  pub bytes_written : ℕ
-
+-- no entry was counted
 abbrev pub no_tally : Tally
 no_tally = record {
   calls = 0;
@@ -128,48 +100,40 @@ with_entry t (Move stamp col node) = record t { moves = bump t.moves }
 abbrev pub tally_of : List (List Entry) → Tally
 tally_of hs = fold with_entry no_tally (flat_map (λ h. h) hs)
 
-unfoldable pub swap_line : Tally → List ℕ
-swap_line t = if t.swaps == 0 then [] else line_of (codes "swap" ∷ decimal t.swaps ∷ codes "differs" ∷ decimal t.differs ∷ [])
+-- a number behind its text
+abbrev pub count_text : List ℕ × ℕ → List ℕ
+count_text c = c.0 ++ decimal c.1
 
-unfoldable pub upgrade_line : Tally → List ℕ
-upgrade_line t = if t.upgrades == 0 then [] else line_of (codes "upgrade" ∷ decimal t.upgrades ∷ [])
+abbrev pub counts_text : List (List ℕ × ℕ) → List ℕ
+counts_text counts = flat_map count_text counts
 
-unfoldable pub drain_line : Tally → List ℕ
-drain_line t =
+-- five lines, but for the end of the last
+unfoldable pub main_counts : (segments : ℕ) → Tally → List (List ℕ × ℕ)
+main_counts segments t =
+    (codes "segments ", segments)
+    ∷ (codes "\ncalls ", t.calls) ∷ (codes " read ", t.reads) ∷ (codes " write ", t.writes) ∷ (codes " put ", t.puts)
+    ∷ (codes " merge ", t.merges) ∷ (codes " tick ", t.ticks) ∷ (codes " rebuild ", t.rebuilds)
+    ∷ (codes "\nreplies bytes ", t.bytes) ∷ (codes " done ", t.done) ∷ (codes " range ", t.range) ∷ (codes " long ", t.long) ∷ (codes " lost ", t.lost)
+    ∷ (codes " whole ", t.whole) ∷ (codes " rebuilt ", t.rebuilt) ∷ (codes " nospare ", t.no_spare) ∷ (codes " nomem ", t.no_memory)
+    ∷ (codes "\nmarks down ", t.downs) ∷ (codes " up ", t.ups)
+    ∷ (codes "\nmoved read ", t.bytes_read) ∷ (codes " written ", t.bytes_written) ∷ []
+
+-- one line each for swaps, upgrades and drains, where there are any
+unfoldable pub swap_counts : Tally → List (List ℕ × ℕ)
+swap_counts t = if t.swaps == 0 then [] else (codes "\nswap ", t.swaps) ∷ (codes " differs ", t.differs) ∷ []
+
+unfoldable pub upgrade_counts : Tally → List (List ℕ × ℕ)
+upgrade_counts t = if t.upgrades == 0 then [] else (codes "\nupgrade ", t.upgrades) ∷ []
+
+unfoldable pub drain_counts : Tally → List (List ℕ × ℕ)
+drain_counts t =
     if t.drains == 0 then []
-    else line_of (codes "drain" ∷ decimal t.drains ∷ codes "shifted" ∷ decimal t.shifted ∷ codes "clear" ∷ decimal t.clear ∷ codes "moves" ∷ decimal t.moves ∷ [])
+    else (codes "\ndrain ", t.drains) ∷ (codes " shifted ", t.shifted) ∷ (codes " clear ", t.clear) ∷ (codes " moves ", t.moves) ∷ []
 
-unfoldable pub calls_line : Tally → List ℕ
-calls_line t =
-    line_of (codes "calls" ∷ decimal t.calls ∷ codes "read" ∷ decimal t.reads ∷ codes "write" ∷ decimal t.writes ∷ codes "put" ∷ decimal t.puts
-    ∷ codes "merge" ∷ decimal t.merges ∷ codes "tick" ∷ decimal t.ticks ∷ codes "rebuild" ∷ decimal t.rebuilds ∷ [])
-
--- of replies to calls that were done or refused by their numbers, behind the line's first word
-unfoldable pub first_replies : Tally → List (List ℕ)
-first_replies t = codes "bytes" ∷ decimal t.bytes ∷ codes "done" ∷ decimal t.done ∷ codes "range" ∷ decimal t.range ∷ codes "long" ∷ decimal t.long ∷ []
-
--- and of those that columns decide
-unfoldable pub other_replies : Tally → List (List ℕ)
-other_replies t =
-    codes "lost" ∷ decimal t.lost ∷ codes "whole" ∷ decimal t.whole ∷ codes "rebuilt" ∷ decimal t.rebuilt ∷ codes "nospare" ∷ decimal t.no_spare ∷ codes "nomem" ∷ decimal t.no_memory ∷ []
-
-abbrev pub replies_line : Tally → List ℕ
-replies_line t = line_of (codes "replies" ∷ (first_replies t ++ other_replies t))
-
-unfoldable pub marks_line : Tally → List ℕ
-marks_line t = line_of (codes "marks" ∷ codes "down" ∷ decimal t.downs ∷ codes "up" ∷ decimal t.ups ∷ [])
-
-unfoldable pub moved_line : Tally → List ℕ
-moved_line t = line_of (codes "moved" ∷ codes "read" ∷ decimal t.bytes_read ∷ codes "written" ∷ decimal t.bytes_written ∷ [])
-
-unfoldable pub segments_line : ℕ → List ℕ
-segments_line segments = line_of (codes "segments" ∷ decimal segments ∷ [])
-
--- Five lines, and one each for swaps, upgrades and drains where there are any.
-abbrev pub tally_text : ℕ → Tally → List ℕ
+abbrev pub tally_text : (segments : ℕ) → Tally → List ℕ
 tally_text segments t =
-    segments_line segments ++ (calls_line t ++ (replies_line t ++ (marks_line t ++ (moved_line t
-    ++ (swap_line t ++ (upgrade_line t ++ drain_line t))))))
+    counts_text (main_counts segments t)
+    ++ (counts_text (swap_counts t) ++ (counts_text (upgrade_counts t) ++ (counts_text (drain_counts t) ++ 10 ∷ [])))
 
 abbrev pub summary_text : List (List Entry) → List ℕ
 summary_text hs = tally_text (length hs) (tally_of hs)

@@ -14,8 +14,8 @@ use Rattle.cod_chronicle.specs.declared.entry.Cause.{Cause}
 use Rattle.cod_chronicle.specs.declared.entry.Cause.TheVariants.{Killed, Fault}
 use Rattle.cod_chronicle.specs.Said.{StampsRise}
 use Rattle.cod_chronicle.specs.Order.{placed}
-use Rattle.cod_scenario.specs.Plan.{Plan, nobody}
-use Rattle.cod_scenario.specs.Sound.{IsScenario}
+use Rattle.cod_script.specs.Script.{Script, nobody}
+use Rattle.cod_script.specs.Sound.{IsScenario}
 use Rattle.cod_text.specs.Printed.{chronicle_text}
 
 -- bytes that a line's word may have
@@ -28,7 +28,7 @@ IsName [] = ⊥
 IsName (c ∷ w) = (97 ≤ c) × ((c ≤ 122) × IsWord w)
 
 -- Segments and clients have names, and no two segments and no two clients have one name.
-pub record HasNames (x : Plan) : Type 0 where
+pub record HasNames (x : Script) : Type 0 where
   pub segments : AllByRecursion IsName x.segments
   pub segments_differ : (s t : ℕ) → s < length x.segments → t < length x.segments → slice_index_or x.segments s [] ≡ slice_index_or x.segments t [] → s ≡ t
   pub clients : AllByRecursion (λ c. IsName c.name) x.clients
@@ -80,15 +80,16 @@ EntryFits (Up stamp col node) = Fits stamp × (Fits col × Fits node.0)
 EntryFits (Move stamp col node) = Fits stamp × (Fits col × Fits node.0)
 
 -- One chronicle for each segment: the stamps of each rise, and the numbers in all fit their types.
-pub record HasChronicles (x : Plan) (hs : List (List Entry)) : Type 0 where
+pub record HasChronicles (x : Script) (hs : List (List Entry)) : Type 0 where
   pub count : length hs ≡ length x.segments
   pub rise : AllByRecursion StampsRise hs
   pub fit : AllByRecursion (λ p. EntryFits p.entry) (placed hs)
 
 -- For one scenario, chronicles with equal text are equal.
 abbrev pub IsReadOneWay : Type 0
-IsReadOneWay = (x : Plan) (hs ks : List (List Entry)) → HasNames x → HasChronicles x hs → HasChronicles x ks → chronicle_text x hs ≡ chronicle_text x ks → hs ≡ ks
+IsReadOneWay = (x : Script) (hs ks : List (List Entry)) → HasNames x → HasChronicles x hs → HasChronicles x ks → chronicle_text x hs ≡ chronicle_text x ks
+    → hs ≡ ks
 
 -- every scenario has names
 abbrev pub ScenarioHasNames : Type 0
-ScenarioHasNames = (x : Plan) → IsScenario x → HasNames x
+ScenarioHasNames = (x : Script) → IsScenario x → HasNames x

@@ -8,7 +8,7 @@ use crate::lines::entry;
 use cod_chronicle::{Stands, merge_order};
 use cod_io::Sink;
 use cod_print::WriteFault;
-use cod_scenario::Scenario;
+use cod_script::Scenario;
 use cod_types::SegId;
 
 /// Writes a line for each entry of all segments, by stamp, then by segment, then by place in the segment. The values in `all`

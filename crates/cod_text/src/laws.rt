@@ -1,5 +1,5 @@
 //! Laws of printed texts, each the contract of a function that does nothing.
-ghost use Rattle.cod_text.specs.Alone.{IsPrintedAlone};
+ghost use Rattle.cod_text.specs.Alone.{IsPrintedAlone, NeedsNoLines};
 ghost use Rattle.cod_text.specs.Unique.{IsReadOneWay, ScenarioHasNames};
 
 /// The text of one segment's chronicle has a line for each entry, in the chronicle's order.
@@ -18,4 +18,10 @@ pub fn read_one_way()
 #[tactic(auto, using(crate::proofs::ScenarioNames::scenario_has_names))]
 pub fn scenario_has_names()
     ensures { ScenarioHasNames }
+{}
+
+/// The text of a run's chronicles is the same where a client's lines were taken out of the scenario.
+#[tactic(auto, using(crate::proofs::Taken::needs_no_lines))]
+pub fn needs_no_lines()
+    ensures { NeedsNoLines }
 {}

@@ -3,15 +3,14 @@
 #![tactic(auto)]
 
 mod chronicles;
+mod count;
+mod counting;
 mod laws;
 mod lines;
 mod summing;
 mod tally;
 
 pub use chronicles::chronicle;
-pub use laws::{printed_alone, read_one_way, scenario_has_names};
+pub use laws::{needs_no_lines, printed_alone, read_one_way, scenario_has_names};
 pub use lines::{entry, layout, node, segment};
 pub use summing::summary;
-
-#[cfg(test)]
-mod tests;

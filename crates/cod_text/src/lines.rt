@@ -5,12 +5,13 @@ ghost use Rattle.cod_types.specs.Faults.{HasCause};
 ghost use Rattle.cod_chronicle.specs.Order.{place};
 ghost use Rattle.cod_print.specs.Puts.{Puts};
 ghost use Rattle.cod_print.specs.Pieces.{piece_text, spaced};
-ghost use Rattle.cod_text.specs.Printed.{call_words, caller_word, cause_words, layout_text, line_text, node_text, parity_words, reason_word, reply_words, segment_word, state_word, why_text};
+ghost use Rattle.cod_text.specs.Printed.{call_words, caller_word, cause_words, layout_text, line_text, node_text, parity_words, reason_word, reply_words};
+ghost use Rattle.cod_text.specs.Printed.{segment_word, state_word, why_text};
 
 use cod_chronicle::{Cause, Chronicle, Entry};
 use cod_io::Sink;
 use cod_print::{Piece, WriteFault, pieces, text};
-use cod_scenario::Scenario;
+use cod_script::Scenario;
 use cod_types::{Call, Caller, LayoutLine, NodeId, ParityLine, Reason, Reply, SegId, Why};
 
 /// A client's name, or `+W` for the care worker W.
@@ -174,7 +175,8 @@ fn head<W: Sink>(
     number: u32,
 ) -> Result<(), WriteFault>
     requires { seg.0 < length names.now.segments }
-    ensures text { Puts result (W.taken sink.old) (W.taken sink.new) (decimal stamp ++ spaced (segment_word names.now seg.0 ∷ caller_word names.now who.0 ∷ decimal number ∷ [])) }
+    ensures text { Puts result (W.taken sink.old) (W.taken sink.new) (decimal stamp ++ spaced
+        (segment_word names.now seg.0 ∷ caller_word names.now who.0 ∷ decimal number ∷ [])) }
     ensures cause { HasCause (W.fault_count sink.old) (W.fault_count sink.new) result }
 {
     let (sign, name) = caller(names, who);
@@ -201,7 +203,8 @@ fn arrival<'a, W: Sink>(
     col: u8,
     node: NodeId,
 ) -> Result<(), WriteFault>
-    ensures text { Puts result (W.taken sink.old) (W.taken sink.new) (decimal stamp ++ (spaced (name.now ∷ codes "=" ∷ how.now ∷ decimal col ∷ decimal node.0 ∷ []) ++ codes "\n")) }
+    ensures text { Puts result (W.taken sink.old) (W.taken sink.new) (decimal stamp ++ (spaced
+        (name.now ∷ codes "=" ∷ how.now ∷ decimal col ∷ decimal node.0 ∷ []) ++ codes "\n")) }
     ensures cause { HasCause (W.fault_count sink.old) (W.fault_count sink.new) result }
 {
     pieces(
@@ -230,7 +233,8 @@ fn departure<W: Sink>(
     node: NodeId,
     by: Cause,
 ) -> Result<(), WriteFault>
-    ensures text { Puts result (W.taken sink.old) (W.taken sink.new) (decimal stamp ++ (spaced (name.now ∷ codes "=" ∷ codes "down" ∷ decimal col ∷ decimal node.0 ∷ cause_words by) ++ codes "\n")) }
+    ensures text { Puts result (W.taken sink.old) (W.taken sink.new) (decimal stamp ++ (spaced
+        (name.now ∷ codes "=" ∷ codes "down" ∷ decimal col ∷ decimal node.0 ∷ cause_words by) ++ codes "\n")) }
     ensures cause { HasCause (W.fault_count sink.old) (W.fault_count sink.new) result }
 {
     let (word, count) = cause(by);

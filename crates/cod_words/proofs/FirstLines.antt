@@ -10,7 +10,7 @@ use Rattle.std.proofs.lemmas.Bool.{eqb-true}
 use Rattle.cod_words.specs.Words.{lines_of, but_empty_last}
 
 -- a line goes before the lines of at least one piece
-onto_lines : (line : List ℕ) (pieces : List (List ℕ)) → 1 ≤ length pieces → but_empty_last (line ∷ pieces) ≡ line ∷ but_empty_last pieces
+pub onto_lines : (line : List ℕ) (pieces : List (List ℕ)) → 1 ≤ length pieces → but_empty_last (line ∷ pieces) ≡ line ∷ but_empty_last pieces
 onto_lines line [] some = absurd (omega arith)
 onto_lines line (piece ∷ pieces) some = grind arith
 

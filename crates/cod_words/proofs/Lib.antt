@@ -1,4 +1,4 @@
 pub mod Digits
-mod FirstLines
+pub mod FirstLines
 pub mod Names
 pub mod Round

@@ -31,5 +31,11 @@ number_again n h =
     let wide : n < 2 ^ 64 = omega (arith, h) in
     let v : digits_value 10 (decimal n) ≡ n = digits_value-decimal own n wide in
     let long : length (decimal n) ≤ 10 = length-decimal-le 10 n (omega arith) (omega (arith, h)) wide in
-    let t : is_number (decimal n) ≡ true = rw (le-leb 1 (length (decimal n)) (decimal_nonempty n wide), le-leb (length (decimal n)) 10 long, digits_pass (decimal n) (digits_decimal own n wide), v, le-leb n 4294967295 (omega (arith, h))) refl in
+    let t : is_number (decimal n) ≡ true = rw (
+      le-leb 1 (length (decimal n)) (decimal_nonempty n wide),
+      le-leb (length (decimal n)) 10 long,
+      digits_pass (decimal n) (digits_decimal own n wide),
+      v,
+      le-leb n 4294967295 (omega (arith, h)),
+    ) refl in
     rw (t, v) refl

@@ -1,5 +1,6 @@
 -- The words of a line, and what each kind of word is.
-use Rattle.std.specs.Prelude.{◌≡◌, ℕ, ◌==◌, ◌&&◌, ◌||◌, not, nat_le, nat_lt, Bool, if◌then◌else◌, List, [], ◌∷◌, length, take, drop, replicate, slice_index, slice_index_or, ◌-◌, codes, Option, Some, None, Result, Ok, Err}
+use Rattle.std.specs.Prelude.{◌≡◌, ℕ, ◌==◌, ◌&&◌, ◌||◌, not, nat_le, nat_lt, Bool, if◌then◌else◌, List, [], ◌∷◌, length, take, drop, replicate, slice_index}
+use Rattle.std.specs.Prelude.{slice_index_or, ◌-◌, codes, Option, Some, None, Result, Ok, Err}
 use Rattle.std.specs.List.{filter, list_all, slice_split}
 use Rattle.std.specs.Str.{bytes_eq}
 use Rattle.std.specs.Str.Parse.{digits_value}

@@ -28,5 +28,6 @@ returns c =
       elsewhere = λ m lt none. ap (λ (r : List ℕ). get_or r m 0) e ∙ decode_row_place c.args.sources c.args.wanted m lt ∙ decode_weight_elsewhere c.args.sources c.args.wanted m none;
       decodes = λ v w.
           ap (λ r. combination r v) e
-          ∙ decodes c.args.self.now.n c.args.self.now.k v c.args.sources c.args.wanted c.args.self.now.most w (columns_count c.args.sources (omega arith) ∙ c.requires.count) c.requires.below c.requires.wanted;
+          ∙ decodes c.args.self.now.n c.args.self.now.k v c.args.sources c.args.wanted c.args.self.now.most w
+          (columns_count c.args.sources (omega arith) ∙ c.requires.count) c.requires.below c.requires.wanted;
     }

@@ -10,7 +10,8 @@ invariant-records l = record {
   wide : length l.window ≡ length l.initial.window;
   within : l.at ≤ length l.log;
   sum : (g : Shape) (records : List Logged) → g.k ≤ 16 → AllByRecursion (IsIn g) records → l.log ≡ flat_map text records
-      → Scan g l.log l.at (λ ls. (x : ℕ) → x < length l.initial.window → bit_xor (get_or l.window x 0) (change l.cuts ls (l.off + x)) ≡ bit_xor (get_or l.initial.window x 0) (change l.cuts records (l.off + x)));
+      → Scan g l.log l.at (λ ls. (x : ℕ) → x < length l.initial.window
+      → bit_xor (get_or l.window x 0) (change l.cuts ls (l.off + x)) ≡ bit_xor (get_or l.initial.window x 0) (change l.cuts records (l.off + x)));
 }
 
 abbrev pub decreases-records : goal.decreases-records

@@ -13,6 +13,7 @@ records-init c = record {
   long = refl;
   wide = refl;
   within = omega arith;
+  due = λ due. due;
   lowest = λ g records few each is. record { left = records; each = each; ahead = is; holds = refl };
   kept = λ g records few each is. record { left = records; each = each; ahead = is; holds = refl };
   sum = λ g records few each is. record { left = records; each = each; ahead = is; holds = λ x small. refl };
@@ -32,10 +33,11 @@ records-preserved c =
       long = c.fold_one-to.auto.log ∙ c.records.invariant.long;
       wide = c.fold_one-to.auto.base ∙ c.records.invariant.wide;
       within = omega (arith, length-drop at log, c.fold_one-to.auto.log);
+      due = λ due. c.records.invariant.due (c.note_one.ensures.due due);
       lowest = λ g records few each is.
           scan_next g few log at _ c.fold_one-to.new.log _ c.in-Some.found c.in-Some.len c.in-Some.ensures.some.0 inside
           (λ l rest fits fewer here. sym c.in-Some.is ∙ c.next_record.ensures.only l rest fits fewer (same ∙ here)) c.fold_one-to.ensures.rest
-          (λ l ls next holds. low_next c.args.cuts.now c.records.lowest c.note_one.new.lowest _ l ls (c.note_one.ensures l next.found_is) holds)
+          (λ l ls next holds. low_next c.args.cuts.now c.records.lowest c.note_one.new.lowest _ l ls (c.note_one.ensures.noted l next.found_is) holds)
           (c.records.invariant.lowest g records few each is);
       kept = λ g records few each is.
           scan_next g few log at _ c.fold_one-to.new.log _ c.in-Some.found c.in-Some.len c.in-Some.ensures.some.0 inside

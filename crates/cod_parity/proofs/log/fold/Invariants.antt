@@ -1,7 +1,7 @@
 use Rattle.std.proofs.Common.{◌≡◌, ◌≤◌, ◌<◌, ◌-◌, ◌++◌, ℕ, List, length, take, get_or, bit_xor}
 use Rattle.std.specs.List.{flat_map, filter, AllByRecursion}
 use Rattle.cod_types.specs.Limits.{Shape}
-use Rattle.cod_parity.specs.Log.{Logged, IsIn, text, is_past, no_lowest, lowest_from, change}
+use Rattle.cod_parity.specs.Log.{IsDue, Logged, IsIn, text, is_past, no_lowest, lowest_from, change}
 use Rattle.cod_parity.proofs.Scan.{Scan}
 use Rattle.cod_parity.proofs.log.fold.Given as goal
 
@@ -11,6 +11,7 @@ invariant-records l = record {
   long : length l.log ≡ length l.initial.log;
   wide : length l.base ≡ length l.initial.base;
   within : l.at ≤ length l.log;
+  due : IsDue l.lowest l.cuts → IsDue no_lowest l.cuts;
   lowest : (g : Shape) (records : List Logged) → g.k ≤ 16 → AllByRecursion (IsIn g) records → l.initial.log ≡ flat_map text records
       → Scan g l.log l.at (λ ls. lowest_from l.lowest (filter (is_past l.cuts) ls) ≡ lowest_from no_lowest (filter (is_past l.cuts) records));
   kept : (g : Shape) (records : List Logged) → g.k ≤ 16 → AllByRecursion (IsIn g) records → l.initial.log ≡ flat_map text records

@@ -10,7 +10,8 @@ use Rattle.cod_parity.proofs.spelling.write_text.Goals as goal
 
 pub returns-then-version-eq2-clause-len : goal.returns-then-version-eq2-clause-len
 returns-then-version-eq2-clause-len c =
-    c.write_sparse.ensures.len ∙ sym (length-logged c.args.version c.args.head c.args.bytes.now c.requires.first c.requires.last ∙ second_length_is c.args.version c.args.head c.args.bytes.now c.if-version-eq2.true)
+    c.write_sparse.ensures.len
+    ∙ sym (length-logged c.args.version c.args.head c.args.bytes.now c.requires.first c.requires.last ∙ second_length_is c.args.version c.args.head c.args.bytes.now c.if-version-eq2.true)
 
 pub returns-then-version-eq2-clause-front : goal.returns-then-version-eq2-clause-front
 returns-then-version-eq2-clause-front c =

@@ -1,8 +1,8 @@
-use Rattle.std.proofs.Common.{◌≡◌, ◌++◌, ◌∷◌, [], List, ℕ, length, codes, decimal, sym, ◌∙◌, true}
+use Rattle.std.proofs.Common.{◌≡◌, ◌++◌, ◌∷◌, [], length, codes, decimal, sym, ◌∙◌, true}
 use Rattle.std.specs.Prelude.{slice_index}
 use Rattle.std.proofs.lemmas.Result.{err_from_is_err_and}
 use Rattle.hex.specs.Hex.{encode_lower}
-use Rattle.cod_print.specs.Pieces.{is_repeated, data_word}
+use Rattle.cod_print.specs.Pieces.{is_repeated}
 use Rattle.cod_print.proofs.Fronts.{took_first, took_behind, puts_behind, repeated_word}
 use Rattle.cod_print.proofs.put.data.Goals as goal
 

@@ -12,4 +12,5 @@ returns-in_err-piece-clause-text g c =
     let h = c.in_err-piece.ensures.text in
     let xs = c.args.pieces.now in
     let i = c.loop-p.p-index in
-    rw (p.1) (took_front _ _ _ (flat_map piece_text xs) (flat_map piece_text (take i xs)) _ (flat_map piece_text (drop (i + 1) xs)) c.loop-p.invariant.taken h (flat_map_split piece_text xs i _ (omega arith)))
+    rw (p.1) (took_front _ _ _ (flat_map piece_text xs) (flat_map piece_text (take i xs)) _ (flat_map piece_text (drop (i + 1) xs)) c.loop-p.invariant.taken h (flat_map_split piece_text xs i _
+    (omega arith)))

@@ -4,7 +4,8 @@ use Rattle.byteorder.specs.Endian.{big_number}
 use Rattle.cod_record.specs.Record.{range, IsSparseRange}
 use Rattle.cod_record.proofs.Reading_back.{heads, range_read}
 use Rattle.cod_record.proofs.any.read_range.Goals as goal
-use Rattle.cod_record.proofs.any.read_range.Goals.{then-off-least-via-then-off-least, then-off-least-via-else-off-least+then-bytes-len, then-off-len-via-then-off-len, then-off-len-via-else-off-len+then-not-is_range}
+use Rattle.cod_record.proofs.any.read_range.Goals.{then-off-least-via-then-off-least, then-off-least-via-else-off-least+then-bytes-len, then-off-len-via-then-off-len}
+use Rattle.cod_record.proofs.any.read_range.Goals.{then-off-len-via-else-off-len+then-not-is_range}
 
 pub returns-then-from-lt8-clause-none : goal.returns-then-from-lt8-clause-none
 returns-then-from-lt8-clause-none c = λ g is. omega (arith, (heads c.args.from.now c.args.least g is).room, c.if-from-lt8.true)

@@ -76,6 +76,9 @@ returns-clause-found c =
       told = (λ i. record { block = c.read_u16.result; number = c.read_u64.result; version = 2; ranges = counted i });
       within = c.spans.invariant.high;
       is = record_read from c.read_u16.result c.read_u64.result c.read_u16-count.result c.spans.at whole.all (λ i. omega (arith, c.type_inv.from i))
-          (omega (arith, c.if-from-lt-FRONT.false)) c.requires.kind block number count (omega (arith, c.read_u16.type_inv)) (omega (arith, c.read_u64.type_inv)) (omega (arith, c.read_u16-count.type_inv))
+          (omega (arith, c.if-from-lt-FRONT.false)) c.requires.kind block number count (omega (arith, c.read_u16.type_inv)) (omega (arith, c.read_u64.type_inv)) (omega (
+            arith,
+            c.read_u16-count.type_inv,
+          ))
           whole.is size c.spans.invariant.high (omega (arith, c.if-at.false));
     }

@@ -1,4 +1,4 @@
-use Rattle.std.proofs.Common.{◌≡◌, ◌+◌, ◌≤◌, length, [], ap, sym, ◌∙◌, arith, Ok, Err}
+use Rattle.std.proofs.Common.{◌≡◌, ◌+◌, length, [], ap, ◌∙◌, arith, Ok, Err}
 use Rattle.cod_words.specs.Words.{lines_of}
 use Rattle.cod_scenario.specs.Judge.{line_says, lines_say}
 use Rattle.cod_scenario.proofs.AllLines.{goes_on, fails, is_done}

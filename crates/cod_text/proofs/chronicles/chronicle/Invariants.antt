@@ -8,7 +8,8 @@ use Rattle.cod_text.proofs.chronicles.chronicle.Given as goal
 
 abbrev pub invariant-loop-placed : goal.invariant-loop-placed
 invariant-loop-placed g l = record {
-  taken : (done : List _) × (order (map g.T.Stands.entries l.all) ≡ done ++ l.placed-iterator) × (g.W.Sink.taken l.sink ≡ append_known (g.W.Sink.taken l.fn.sink) (flat_map (λ p. line_text l.names p) done));
+  taken : (done : List _) × (order (map g.T.Stands.entries l.all) ≡ done ++ l.placed-iterator) × (g.W.Sink.taken l.sink ≡ append_known (g.W.Sink.taken l.fn.sink) (flat_map
+      (λ p. line_text l.names p) done));
   within : AllByRecursion (IsBelow (length l.all)) l.placed-iterator;
   same : g.W.Sink.fault_count l.sink ≡ g.W.Sink.fault_count l.fn.sink;
 }

@@ -2,7 +2,7 @@ use Rattle.std.proofs.Common.{◌≡◌, ◌++◌, [], ◌∷◌, codes, decimal
 use Rattle.std.proofs.lemmas.Result.{err_from_is_err_and}
 use Rattle.cod_types.specs.declared.call.Call.{Call}
 use Rattle.cod_types.specs.declared.call.Reply.{Reply}
-use Rattle.cod_scenario.specs.Plan.{Plan}
+use Rattle.cod_script.specs.Script.{Script}
 use Rattle.cod_print.specs.Pieces.{spaced}
 use Rattle.cod_text.specs.Printed.{call_words, caller_word, cause_words, line_of, reply_words, segment_word}
 use Rattle.cod_print.proofs.Fronts.{front_of, front_behind, took_front, puts_behind, puts_same}
@@ -10,17 +10,17 @@ use Rattle.cod_text.proofs.Spacing.{line_parts, line_spaced}
 use Rattle.cod_text.proofs.lines.entry.Goals as goal
 
 -- what stands before the call, without the stamp
-abbrev who_words : Plan → (segment caller number : ℕ) → List (List ℕ)
+abbrev who_words : Script → (segment caller number : ℕ) → List (List ℕ)
 who_words x segment caller number = segment_word x segment ∷ caller_word x caller ∷ decimal number ∷ []
 
-abbrev head_text : Plan → (segment caller number stamp : ℕ) → List ℕ
+abbrev head_text : Script → (segment caller number stamp : ℕ) → List ℕ
 head_text x segment caller number stamp = decimal stamp ++ spaced (who_words x segment caller number)
 
 abbrev told_words : Reply → List (List ℕ)
 told_words told = codes "->" ∷ reply_words told
 
 -- a call's line in four parts
-parts : (x : Plan) (segment caller number stamp : ℕ) (asked : Call) (told : Reply)
+parts : (x : Script) (segment caller number stamp : ℕ) (asked : Call) (told : Reply)
     → line_of (decimal stamp ∷ segment_word x segment ∷ caller_word x caller ∷ decimal number ∷ (call_words asked ++ told_words told))
     ≡ head_text x segment caller number stamp ++ (spaced (call_words asked) ++ (spaced (told_words told) ++ 10 ∷ []))
 parts x segment caller number stamp asked told = line_parts (decimal stamp) (who_words x segment caller number) (call_words asked) (told_words told)
@@ -45,7 +45,8 @@ returns-in_err-reply-in-Call-clause-text g c =
     let s = c.args.seg.0 in
     rw (p.1, i.is)
     (front_behind _ _ _ _ _ _ (parts x s i.who.0 i.number i.stamp i.asked i.told) c.in_ok-head-in-Call.ensures.text
-    (took_front _ _ _ (spaced (call_words i.asked) ++ (spaced (told_words i.told) ++ 10 ∷ [])) (spaced (call_words i.asked)) (spaced (told_words i.told)) (10 ∷ []) c.in_ok-call-in-Call.ensures.text c.in_err-reply-in-Call.ensures.text refl))
+    (took_front _ _ _ (spaced (call_words i.asked) ++ (spaced (told_words i.told) ++ 10 ∷ [])) (spaced (call_words i.asked)) (spaced (told_words i.told))
+    (10 ∷ []) c.in_ok-call-in-Call.ensures.text c.in_err-reply-in-Call.ensures.text refl))
 
 pub returns-in_ok-reply-in-Call-clause-text : goal.returns-in_ok-reply-in-Call-clause-text
 returns-in_ok-reply-in-Call-clause-text g c =

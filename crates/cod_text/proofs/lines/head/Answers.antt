@@ -12,4 +12,5 @@ returns-clause-text g c =
     let n = c.segment_name.ensures in
     let b = c.as_bytes.ensures.value in
     let h = c.pieces.ensures.text in
-    puts_same _ _ _ _ _ (ap (λ (l : List ℕ). decimal c.args.stamp ++ 32 ∷ (s ++ l)) (two_joined (piece_text c.caller.result.0) (piece_text c.caller.result.1) (32 ∷ caller_word x c.args.who.0) (32 ∷ (decimal c.args.number ++ [])) c.caller.ensures)) (rw (b, n) at h)
+    puts_same _ _ _ _ _ (ap (λ (l : List ℕ). decimal c.args.stamp ++ 32 ∷ (s ++ l)) (two_joined (piece_text c.caller.result.0) (piece_text c.caller.result.1) (32 ∷ caller_word x c.args.who.0) (32 ∷
+    (decimal c.args.number ++ [])) c.caller.ensures)) (rw (b, n) at h)

@@ -2,7 +2,7 @@ use Rattle.std.proofs.Common.{◌≡◌, ◌++◌, [], ◌∷◌, codes, decimal
 use Rattle.std.proofs.lemmas.List.{append-nil}
 use Rattle.std.proofs.lemmas.Result.{err_from_is_err_and}
 use Rattle.cod_types.specs.declared.layout.LayoutLine.{LayoutLine}
-use Rattle.cod_scenario.specs.Plan.{Plan}
+use Rattle.cod_script.specs.Script.{Script}
 use Rattle.cod_print.specs.Pieces.{spaced}
 use Rattle.cod_text.specs.Printed.{layout_text, parity_words, segment_word, state_word}
 use Rattle.cod_print.proofs.Fronts.{front_of, took_front, puts_behind, puts_same}
@@ -10,13 +10,13 @@ use Rattle.cod_text.proofs.Spacing.{line_parts}
 use Rattle.cod_text.proofs.lines.layout.Goals as goal
 
 -- what every column's line begins with, and what it ends with
-abbrev place_words : Plan → LayoutLine → List (List ℕ)
+abbrev place_words : Script → LayoutLine → List (List ℕ)
 place_words x l = segment_word x l.seg.0 ∷ decimal l.col ∷ decimal l.node.0 ∷ state_word l.up ∷ codes "len" ∷ decimal l.len ∷ []
 
 abbrev count_words : LayoutLine → List (List ℕ)
 count_words l = codes "reads" ∷ decimal l.reads ∷ codes "writes" ∷ decimal l.writes ∷ []
 
-parts : (x : Plan) (l : LayoutLine) → layout_text x l ≡ (codes "layout" ++ spaced (place_words x l)) ++ (spaced (parity_words l.parity) ++ (spaced (count_words l) ++ 10 ∷ []))
+parts : (x : Script) (l : LayoutLine) → layout_text x l ≡ (codes "layout" ++ spaced (place_words x l)) ++ (spaced (parity_words l.parity) ++ (spaced (count_words l) ++ 10 ∷ []))
 parts x l = line_parts (codes "layout") (place_words x l) (parity_words l.parity) (count_words l)
 
 -- the end of the line, in one piece

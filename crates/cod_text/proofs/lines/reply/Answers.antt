@@ -21,7 +21,7 @@ returns-in_ok-text-in-NoSpare-clause-text g c =
     rw c.in-NoSpare.is (puts_behind _ _ _ _ (codes " -> nospare") (spaced (map (λ r. reason_word r) c.in-NoSpare.why)) c.in_ok-text-in-NoSpare.ensures.text (rw (s, reasons_spaced) at h))
 
 pub returns-in-Differs-clause-text : goal.returns-in-Differs-clause-text
-returns-in-Differs-clause-text g c = (let s = c.as_slice-in-Differs.ensures in let h = c.pieces-in-Differs.ensures.text in rw c.in-Differs.is (rw s at h))
+returns-in-Differs-clause-text g c = (let s = c.as_slice-in-Differs.ensures.same in let h = c.pieces-in-Differs.ensures.text in rw c.in-Differs.is (rw s at h))
 
 pub returns-in-Shifted-clause-text : goal.returns-in-Shifted-clause-text
 returns-in-Shifted-clause-text g c = rw c.in-Shifted.is c.numbered-in-Shifted.ensures.text

@@ -9,5 +9,6 @@ use Rattle.cod_words.proofs.word.word_name.Goals as goal
 
 pub returns : goal.returns
 returns c =
-    let e : c.all.result ≡ list_all is_name_byte c.args.w.now = all_from_yields_List is_name_byte _ _ c.all.result c.all.ensures.ran (YieldsList-from_slice c.args.w.now c.iter.ensures.rest) (λ x b q k. search (rules, tests)) in
+    let e : c.all.result ≡ list_all is_name_byte c.args.w.now = all_from_yields_List is_name_byte _ _ c.all.result c.all.ensures.ran (YieldsList-from_slice c.args.w.now c.iter.ensures.rest)
+    (λ x b q k. search (rules, tests)) in
     rw e (rest_of_name c.args.w.now (grind arith) (grind arith) (grind (arith, common_steps)))

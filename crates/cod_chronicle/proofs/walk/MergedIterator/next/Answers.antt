@@ -19,7 +19,8 @@ pub invariant_of-self-2 : goal.invariant_of-self-2
 invariant_of-self-2 c =
     let items = c.self.inside.rests.items in
     let w = c.soonest_of_all-index.result in
-    let taken : TakesFirst items c.take_first.new.rests w c.in_ok-entry.entry.now = subst (λ l. TakesFirst l c.take_first.new.rests w c.in_ok-entry.entry.now) c.as_mut_slice.ensures.value c.in_ok-entry.ensures in
+    let taken : TakesFirst items c.take_first.new.rests w c.in_ok-entry.entry.now =
+    subst (λ l. TakesFirst l c.take_first.new.rests w c.in_ok-entry.entry.now) c.as_mut_slice.ensures.value c.in_ok-entry.ensures in
     let same = rests_are items c.as_mut_slice.result.now c.take_first.new.rests w c.in_ok-entry.entry.now c.as_mut_slice.ensures.value c.in_ok-entry.ensures in
     let soonest = subst (λ l. IsSoonest l c.soonest_in.result (w / 32 * 32) (w / 32 * 32 + 32)) (c.as_slice-2.ensures.value ∙ same) c.soonest_in.ensures in
     rw same (
@@ -31,7 +32,8 @@ steps_of : goal.returns-clause-steps
 steps_of c =
     let items = c.self.inside.rests.items in
     let w = c.soonest_of_all-index.result in
-    let taken : TakesFirst items c.take_first.new.rests w c.in_ok-entry.entry.now = subst (λ l. TakesFirst l c.take_first.new.rests w c.in_ok-entry.entry.now) c.as_mut_slice.ensures.value c.in_ok-entry.ensures in
+    let taken : TakesFirst items c.take_first.new.rests w c.in_ok-entry.entry.now =
+    subst (λ l. TakesFirst l c.take_first.new.rests w c.in_ok-entry.entry.now) c.as_mut_slice.ensures.value c.in_ok-entry.ensures in
     let same = rests_are items c.as_mut_slice.result.now c.take_first.new.rests w c.in_ok-entry.entry.now c.as_mut_slice.ensures.value c.in_ok-entry.ensures in
     let soonest : IsSoonest items w 0 1024 = subst (λ l. IsSoonest l w 0 1024) c.as_slice.ensures.value c.soonest_of_all-index.ensures in
     let short : length items ≤ 1024 = subst (λ l. length l ≤ 1024) c.as_slice.ensures.value c.as_slice.ensures.fits in

@@ -22,10 +22,27 @@ returns-clause-value g c =
     let reserve = ap (λ (s : State). s.shape.reserve) c.self.view_is in
     let end : ℕ = (c.block.result - c.args.off) + c.self.inside.used in
     let read : length c.read_at-2.new.into ≡ end =
-    omega (arith, c.read_at-2.auto.into, length-take {A = ℕ}, length-drop {A = ℕ}, c.requires.scratch, c.requires.inside, c.block.ensures, block, reserve, c.self.invariant.used, c.self.invariant.most) in
+    omega (
+      arith,
+      c.read_at-2.auto.into,
+      length-take {A = ℕ},
+      length-drop {A = ℕ},
+      c.requires.scratch,
+      c.requires.inside,
+      c.block.ensures,
+      block,
+      reserve,
+      c.self.invariant.used,
+      c.self.invariant.most,
+    ) in
     rw (← c.self.view_is) (λ base records means.
-    read_done c.args.cuts.now _ base records c.read_at-2.new.into _ c.copy_from_slice.new.self c.add_log.new.window c.args.off (c.block.result - c.args.off) c.self.inside.used end (length c.args.into.now)
-    means (omega (arith, c.self.invariant.within.data_among_columns, c.self.invariant.within.most_columns)) refl (omega (arith, c.requires.inside, c.block.ensures, block)) refl (omega (arith, c.requires.inside, block))
+    read_done c.args.cuts.now _ base records c.read_at-2.new.into _ c.copy_from_slice.new.self c.add_log.new.window c.args.off (c.block.result - c.args.off) c.self.inside.used end
+    (length c.args.into.now)
+    means (omega (arith, c.self.invariant.within.data_among_columns, c.self.invariant.within.most_columns)) refl (omega (arith, c.requires.inside, c.block.ensures, block)) refl (omega (
+      arith,
+      c.requires.inside,
+      block,
+    ))
     read c.in_ok-read_at.ensures.bytes c.copy_from_slice.ensures.after c.copy_from_slice.ensures.len c.add_log.ensures)
 
 pub returns-clause-value_held : goal.returns-clause-value_held

@@ -15,7 +15,7 @@ returns-clause-shrinks g c =
       shape = c.merge.ensures.same.shape;
       same_size = c.merge.ensures.same.size;
       average = c.merge.ensures.same.average;
-      kept = c.cut.ensures.kept.1;
+      kept = c.cut.ensures.same.1;
       target = c.target-size.ensures.value ∙ ap (λ (s : State). target_size s.shape s.size s.average) c.self.view_is;
     }) c.in_ok-merge.ensures.merges c.cut.ensures.cuts
 
@@ -29,5 +29,5 @@ returns-clause-means g c = λ base records means.
 
 pub returns-clause-holds : goal.returns-clause-holds
 returns-clause-holds g c = λ v p h.
-    let shape = c.cut.ensures.kept.0 ∙ c.merge.ensures.same.shape ∙ ap (λ (s : State). s.shape) c.average_use.ensures.is in
+    let shape = c.cut.ensures.same.0 ∙ c.merge.ensures.same.shape ∙ ap (λ (s : State). s.shape) c.average_use.ensures.is in
     under_merge c.cut.result c.args.cuts.now c.args.self.now c.cut.new.self v p (under_any c.cut.result shape) (returns-clause-means g c) h

@@ -31,7 +31,8 @@ write_text-len-requires-clause-more g c = λ second.
 
 pub write_at-requires : goal.write_at-requires
 write_at-requires g c =
-    let len = told_length c.args.version c.args.head (scaled c.args.coef c.args.delta.now) c.scale.new.into c.write_text-len.result c.requires.first c.requires.last c.scale.ensures c.write_text-len.ensures.len in
+    let len = told_length c.args.version c.args.head
+    (scaled c.args.coef c.args.delta.now) c.set_scaled.new.dst c.write_text-len.result c.requires.first c.requires.last c.set_scaled.ensures c.write_text-len.ensures.len in
     let used = ap (λ (s : State). s.used) c.self.view_is in
     let size = ap (λ (s : State). s.size) c.self.view_is in
     let within : c.write_text-len.result ≤ length c.write_text-len.new.into = omega (arith, c.write_text-len.ensures.within, c.write_text-len.auto.into) in
@@ -40,14 +41,16 @@ write_at-requires g c =
 
 pub overflow_add-self : goal.overflow_add-self
 overflow_add-self g c =
-    let len = told_length c.args.version c.args.head (scaled c.args.coef c.args.delta.now) c.scale.new.into c.write_text-len.result c.requires.first c.requires.last c.scale.ensures c.write_text-len.ensures.len in
+    let len = told_length c.args.version c.args.head
+    (scaled c.args.coef c.args.delta.now) c.set_scaled.new.dst c.write_text-len.result c.requires.first c.requires.last c.set_scaled.ensures c.write_text-len.ensures.len in
     let used = ap (λ (s : State). s.used) c.self.view_is in
     let size = ap (λ (s : State). s.size) c.self.view_is in
     omega (arith, len, used, size, c.requires.room, c.self.invariant.most, c.self.invariant.within.most_reserve)
 
 pub invariant_of-self-2 : goal.invariant_of-self-2
 invariant_of-self-2 g c =
-    let len = told_length c.args.version c.args.head (scaled c.args.coef c.args.delta.now) c.scale.new.into c.write_text-len.result c.requires.first c.requires.last c.scale.ensures c.write_text-len.ensures.len in
+    let len = told_length c.args.version c.args.head
+    (scaled c.args.coef c.args.delta.now) c.set_scaled.new.dst c.write_text-len.result c.requires.first c.requires.last c.set_scaled.ensures c.write_text-len.ensures.len in
     let used = ap (λ (s : State). s.used) c.self.view_is in
     let size = ap (λ (s : State). s.size) c.self.view_is in
     let same : (g.R.Region.device c.write_at.new.self).size ≡ (g.R.Region.device c.self.inside.region).size = ap (λ (d : Device). d.size) c.write_at.ensures.same in
@@ -62,7 +65,8 @@ invariant_of-self-2 g c =
 
 pub returns-in_err-write_at-clause-adds : goal.returns-in_err-write_at-clause-adds
 returns-in_err-write_at-clause-adds g c =
-    let len = told_length c.args.version c.args.head (scaled c.args.coef c.args.delta.now) c.scale.new.into c.write_text-len.result c.requires.first c.requires.last c.scale.ensures c.write_text-len.ensures.len in
+    let len = told_length c.args.version c.args.head
+    (scaled c.args.coef c.args.delta.now) c.set_scaled.new.dst c.write_text-len.result c.requires.first c.requires.last c.set_scaled.ensures c.write_text-len.ensures.len in
     let within : c.write_text-len.result ≤ length c.write_text-len.new.into = omega (arith, c.write_text-len.ensures.within, c.write_text-len.auto.into) in
     let taken = length-take-le c.write_text-len.result c.write_text-len.new.into within in
     rw (← c.self.view_is) (match_err c.from_residual.result _ _ c.from_residual.ensures.0 (λ e.
@@ -76,8 +80,9 @@ returns-clause-adds g c =
     let shape = ap (λ (s : State). s.shape) c.self.view_is in
     let block : c.args.head.block < c.self.inside.shape.k = rw shape c.requires.block in
     let inside : c.args.head.off + c.args.head.len ≤ c.self.inside.shape.block = rw shape c.requires.inside in
-    let long : c.args.head.len ≡ length c.scale.new.into = sym size ∙ ap (λ (b : List ℕ). length b) (sym c.scale.ensures) in
-    rw (← c.self.view_is, ← c.scale.ensures) (appended _ c.args.version c.args.head c.scale.new.into c.write_text-len.new.into c.write_text-len.result (c.block.result + c.self.inside.used) c.min.result _
+    let long : c.args.head.len ≡ length c.set_scaled.new.dst = sym size ∙ ap (λ (b : List ℕ). length b) (sym c.set_scaled.ensures) in
+    rw (← c.self.view_is, ← c.set_scaled.ensures) (appended _ c.args.version c.args.head c.set_scaled.new.dst c.write_text-len.new.into c.write_text-len.result
+    (c.block.result + c.self.inside.used) c.min.result _
     (g.R.Region.device c.write_at.new.self) c.self.invariant.within c.requires.first c.requires.last block inside long
     c.write_text-len.ensures.record c.write_text-len.ensures.len c.write_text-len.ensures.front (ap (λ (n : ℕ). n + c.self.inside.used) c.block.ensures)
     c.write_at.ensures.same c.in_ok-write_at.ensures.cause.kept c.in_ok-write_at.ensures.content c.min.ensures c.saturating_add-self-inside.ensures)

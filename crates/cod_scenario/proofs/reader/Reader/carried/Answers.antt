@@ -11,5 +11,9 @@ returns-then-not-has_room_for c =
 
 pub returns : goal.returns
 returns c =
-    let light = c.if-weight-gt-MOST_WEIGHT.false in
-    (is_carried c.args.self.now.said c.args.said.now c.weight_with-weight.result light c.weight_with-weight.ensures (sym c.has_room_for.ensures ∙ c.if-not-has_room_for.false), c.weight_with-weight.ensures.0 light, light)
+    let light = c.if-weight-gt-MOST_WEIGHT.false in (
+      is_carried c.args.self.now.said c.args.said.now c.weight_with-weight.result light c.weight_with-weight.ensures (sym c.has_room_for.ensures
+          ∙ c.if-not-has_room_for.false),
+      c.weight_with-weight.ensures.0 light,
+      light,
+    )

@@ -3,8 +3,8 @@ use Rattle.cod_scenario.specs.Judge.{is_end, last_of}
 use Rattle.cod_scenario.proofs.Finishing.{whole, is_finished, not_finished}
 use Rattle.cod_scenario.proofs.reader.Reader.finish.Goals as goal
 
-pub of-requires : goal.of-requires
-of-requires c =
+pub scenario-requires : goal.scenario-requires
+scenario-requires c =
     let lines = c.self.inside.said.items in
     let v : lines ≡ c.args.self.said = ap (λ h. h.said) c.self.view_is in
     let e : is_end (last_of lines) ≡ true = ap (λ l. is_end (last_of l)) v ∙ (sym c.is_ended.ensures ∙ c.if-not-is_ended.false) in
@@ -18,4 +18,4 @@ returns-then-not-is_ended c =
 pub returns : goal.returns
 returns c =
     let v : c.self.inside.said.items ≡ c.args.self.said = ap (λ h. h.said) c.self.view_is in
-    rw (c.of.ensures, c.self.invariant.header_is, c.in_ok-gathered.ensures, v) (is_finished c.args.self (sym c.is_ended.ensures ∙ c.if-not-is_ended.false))
+    rw (c.scenario.ensures, c.self.invariant.header_is, c.in_ok-gathered.ensures, v) (is_finished c.args.self (sym c.is_ended.ensures ∙ c.if-not-is_ended.false))

@@ -1,5 +1,5 @@
 use Rattle.std.proofs.Common.{◌≡◌, length, ap, sym, ◌∙◌, arith}
-use Rattle.cod_scenario.specs.Lines.{header_of, parts_of, segments_of}
+use Rattle.cod_scenario.specs.Lines.{header_of, body_of, segments_of}
 use Rattle.cod_scenario.specs.Reading.{Accepts}
 use Rattle.cod_scenario.specs.declared.said.Header.{Header}
 use Rattle.cod_scenario.proofs.Keeping.{few_nodes}
@@ -22,6 +22,6 @@ pub returns-else-not-is_segment : goal.returns-else-not-is_segment
 returns-else-not-is_segment c =
     let v : c.self.inside.said.items ≡ c.args.self.now.said = ap (λ h. h.said) c.self.view_is in
     let h : c.self.inside.header ≡ header_of c.args.self.now.said = c.self.invariant.header_is ∙ ap header_of v in
-    let s : c.self.inside.segments ≡ segments_of c.args.self.now.said = c.self.invariant.segments_are ∙ ap (λ l. (parts_of l).segments) v in
+    let s : c.self.inside.segments ≡ segments_of c.args.self.now.said = c.self.invariant.segments_are ∙ ap (λ l. (body_of l).segments) v in
     let n : c.len.result ≡ length (segments_of c.args.self.now.said) = c.len.ensures.value ∙ ap length s in
     c.fits.ensures ∙ (rw (h, n) (sym (placed_at c.args.self.now.said c.args.said.now (sym c.is_segment.ensures ∙ c.if-not-is_segment.false))))

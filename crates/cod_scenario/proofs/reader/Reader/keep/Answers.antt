@@ -1,9 +1,9 @@
 use Rattle.std.proofs.Common.{◌≡◌, ◌+◌, ap, arith, rules, ◌∙◌, length, ◌++◌, ◌∷◌, [], refl, true}
 use Rattle.std.proofs.lemmas.Grind.{common_steps}
 use Rattle.cod_scenario.specs.Judge.{is_segment}
-use Rattle.cod_scenario.specs.Lines.{header_of, segments_of, parts_of, weight_of}
-use Rattle.cod_scenario.specs.Reading.{Accepts, Takes, with_header, with_segment, with_client}
-use Rattle.cod_scenario.proofs.Totals.{has_place}
+use Rattle.cod_scenario.specs.Lines.{header_of, segments_of, body_of, weight_of}
+use Rattle.cod_scenario.specs.Reading.{Accepts, IsCarried, IsNumbered, Takes, with_header, with_segment, with_client}
+use Rattle.cod_scenario.proofs.Totals.{has_place, was_carried}
 use Rattle.cod_scenario.proofs.Keeping.{keeps_more}
 use Rattle.cod_scenario.proofs.reader.Reader.keep.Goals as goal
 
@@ -11,7 +11,7 @@ pub keep_room-requires-clause-room : goal.keep_room-requires-clause-room
 keep_room-requires-clause-room c = λ is.
     let v : c.self.inside.said.items ≡ c.args.self.now.said = ap (λ h. h.said) c.self.view_is in
     let h : c.self.inside.header ≡ header_of c.args.self.now.said = c.self.invariant.header_is ∙ ap header_of v in
-    let s : c.self.inside.segments ≡ segments_of c.args.self.now.said = c.self.invariant.segments_are ∙ ap (λ l. (parts_of l).segments) v in
+    let s : c.self.inside.segments ≡ segments_of c.args.self.now.said = c.self.invariant.segments_are ∙ ap (λ l. (body_of l).segments) v in
     let n : c.len-count.result ≡ length (segments_of c.args.self.now.said) = c.len-count.ensures.value ∙ ap length s in
     rw (h, n) (has_place c.args.self.now.said c.args.said is c.requires.carried)
 
@@ -28,9 +28,12 @@ invariant_of-self-2 c =
     let few = c.requires.line in
     let accepts : Accepts lines c.args.said = rw v c.requires.accepts in
     let weight : c.args.weight ≡ weight_of (lines ++ c.args.said ∷ []) = rw v c.requires.weight.0 in
-    let grown : is_segment c.args.said ≡ true → Takes c.keep_room.new.taken c.self.inside.header (length c.self.inside.segments + 1) = λ is. rw c.len-count.ensures.value at (c.keep_room.ensures.grown is) in
+    let grown : is_segment c.args.said ≡ true → Takes c.keep_room.new.taken c.self.inside.header (length c.self.inside.segments + 1) = λ is. rw c.len-count.ensures.value at
+    (c.keep_room.ensures.grown is) in
+    let carried : IsCarried lines c.args.said = rw v (was_carried c.args.self.now.said c.args.said c.requires.carried) in
+    let number : IsNumbered (c.self.inside.lines + 1) c.args.said = rw w c.requires.number in
     rw (items, header, segments, clients) (keeps_more c.self.inside.lines lines c.args.said c.self.inside.header c.self.inside.segments c.self.inside.clients c.self.inside.weight c.args.weight
-    c.self.inside.taken c.keep_room.new.taken c.self.invariant (omega (arith, few, w)) accepts weight c.requires.weight.1 grown c.keep_room.ensures.kept c.keep_room.ensures.len)
+    c.self.inside.taken c.keep_room.new.taken c.self.invariant (omega (arith, few, w)) accepts number carried weight grown c.keep_room.ensures.kept c.keep_room.ensures.len)
 
 pub returns : goal.returns
 returns c =

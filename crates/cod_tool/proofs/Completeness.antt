@@ -1,0 +1,72 @@
+-- What is a scenario is not refused.
+use Rattle.std.proofs.Common.{◌≡◌, ◌⊎◌, ℕ, ◌<◌, ◌≤◌, Bool, true, false, List, [], ◌++◌, length, Option, Some, None, Result, Ok, Err, refl, sym, ap, ◌∙◌, subst, inl, inr, arith, append-nil}
+use Rattle.std.specs.Io.KnownBytes.{prepend_known, IsAtEnd}
+use Rattle.std.proofs.lemmas.Bool.{cases_lt, lt-ltb}
+use Rattle.std.proofs.lemmas.List.{length-append}
+use Rattle.cod_script.specs.Script.{Script}
+use Rattle.cod_scenario.specs.Judge.{text_says}
+use Rattle.cod_scenario.specs.Reads.{reads}
+use Rattle.cod_scenario.specs.declared.refusal.Refusal.{Refusal}
+use Rattle.cod_scenario.specs.declared.refusal.Refusal.TheVariants.{TooLong}
+use Rattle.cod_tool.specs.declared.command.Command.TheVariants as command
+use Rattle.cod_tool.specs.declared.command.Purpose.{Purpose}
+use Rattle.cod_tool.specs.declared.command.Purpose.TheVariants as purpose
+use Rattle.cod_tool.specs.Built.{is_built}
+use Rattle.cod_tool.specs.Replays.{CanServe, ReadsScenario, RefusesScenario, RefusesText}
+
+-- bytes that were read to the end are all that there were
+all_read : (bytes front : List ℕ) (left : Option (List ℕ)) → Some bytes ≡ prepend_known front left → IsAtEnd left → bytes ≡ front
+all_read bytes front None is end = cc
+all_read bytes front (Some xs) is end =
+    let same : bytes ≡ front ++ xs = cc in
+    same ∙ ap (λ (l : List ℕ). front ++ l) end ∙ append-nil front
+
+-- and there were no fewer than were read
+no_fewer : (bytes front : List ℕ) (left : Option (List ℕ)) → Some bytes ≡ prepend_known front left → length front ≤ length bytes
+no_fewer bytes front None is = cc
+no_fewer bytes front (Some xs) is =
+    let same : bytes ≡ front ++ xs = cc in
+    rw (same, length-append front xs) (omega arith)
+
+too_long : (bytes : List ℕ) → 16777216 < length bytes → reads bytes ≡ Err (0, TooLong)
+unfolding text_says
+too_long bytes long = rw (lt-ltb 16777216 (length bytes) long) refl
+
+text_stands : (bytes : List ℕ) (x : Script) (left left' : Option (List ℕ)) (Took : List ℕ → Type 0) → left ≡ Some bytes → reads bytes ≡ Ok x → RefusesText left left' Took → ⊥
+text_stands bytes x left left' Took is text r =
+    let read : Some bytes ≡ prepend_known r.bytes left' = sym is ∙ r.read in
+    elim (cases_lt 16777216 (length r.bytes)) [
+      | inl long ↦ (let few = no_fewer bytes r.bytes left' read in let e = too_long bytes (omega (arith, long, few)) in cc)
+      | inr short ↦ (let same = all_read bytes r.bytes left' read (r.end short) in let e : reads bytes ≡ Err (r.line, r.why) = ap reads same ∙ r.refused in cc)
+    ]
+
+scenario_stands : (asked : Purpose) (bytes : List ℕ) (x : Script) (left left' : Option (List ℕ)) (Took : List ℕ → Type 0) → left ≡ Some bytes → reads bytes ≡ Ok x
+    → (asked ≡ purpose.Replay → is_built x ≡ true) → ReadsScenario (RefusesScenario asked Took) left left' → ⊥
+scenario_stands purpose.Replay bytes x left left' Took is text built r =
+    let read : Some bytes ≡ prepend_known r.bytes left' = sym is ∙ r.read in
+    let same = all_read bytes r.bytes left' read r.end in
+    let one : ◌≡◌ {A = Result Script (ℕ × Refusal)} (Ok x) (Ok r.scenario) = sym text ∙ ap reads same ∙ r.text in
+    let same_one : x ≡ r.scenario = cc in
+    let yes = built refl in
+    let no = ap is_built same_one ∙ r.holds.0 in
+    cc
+scenario_stands purpose.Check bytes x left left' Took is text built r = r.holds
+scenario_stands purpose.Plan bytes x left left' Took is text built r = r.holds
+
+-- a command that has all that it wants isn't refused
+pub not_refused : (asked : Purpose) (left left' : Option (List ℕ)) (Took : List ℕ → Type 0) → CanServe (command.Scenario asked) left
+    → RefusesText left left' Took ⊎ ReadsScenario (RefusesScenario asked Took) left left' → ⊥
+not_refused asked left left' Took can refused =
+    elim refused [
+      | inl text ↦ text_stands can.0 can.1 left left' Took can.2 can.3 text
+      | inr other ↦ scenario_stands asked can.0 can.1 left left' Took can.2 can.3 can.4 other
+    ]
+
+-- of five statuses three don't come
+pub two_left : (status : ℕ) → (status ≡ 0) ⊎ ((status ≡ 3) ⊎ ((status ≡ 4) ⊎ ((status ≡ 5) ⊎ (status ≡ 6)))) → (status ≡ 3 → ⊥) → (status ≡ 4 → ⊥) → (status ≡ 5 → ⊥)
+    → (status ≡ 0) ⊎ (status ≡ 6)
+two_left status s three four five =
+    elim s [
+      | inl a ↦ inl a
+      | inr t ↦ elim t [ inl b ↦ absurd (three b) | inr u ↦ elim u [ inl c ↦ absurd (four c) | inr v ↦ elim v [ inl d ↦ absurd (five d) | inr e ↦ inr e ] ] ]
+    ]

@@ -1,0 +1,72 @@
+-- A text that was taken, and then brought to where it goes.
+use Rattle.std.proofs.Common.{◌≡◌, ◌⊎◌, ℕ, ◌+◌, ◌-◌, ◌≤◌, ◌^◌, min, List, [], ◌++◌, length, Option, Some, None, refl, sym, ap, ◌∙◌, subst, inl, inr, arith, append-nil, append_assoc}
+use Rattle.std.specs.Io.KnownBytes.{prepend_known}
+use Rattle.cod_types.specs.Faults.{Rose, bump}
+use Rattle.cod_types.proofs.Faults.{rose_before, rose_after}
+use Rattle.cod_print.specs.Puts.{TakesFront}
+use Rattle.cod_region.specs.Device.{AllRegions}
+use Rattle.cod_script.specs.Script.{Script}
+use Rattle.cod_tool.specs.declared.command.Command.{Command}
+use Rattle.cod_tool.specs.declared.command.Command.TheVariants as command
+use Rattle.cod_tool.specs.declared.command.Purpose.{Purpose}
+use Rattle.cod_tool.specs.declared.command.Purpose.TheVariants as purpose
+use Rattle.cod_tool.specs.Replays.{Does, Ran, ReadsAtMost, ReadsScenario, Refuses, RefusesScenario, RefusesText, Serves, TakesAll, TakesLine}
+
+-- ---- how a text is taken
+
+-- a text that was taken whole is a front of itself
+pub whole_is_front : (taken taken' : Option (List ℕ)) (text : List ℕ) → TakesAll taken taken' text → TakesFront taken taken' text
+whole_is_front taken taken' text all = (text, [], sym (append-nil text), all)
+
+ran_as : (on : AllRegions) (x : Script) (T U : List ℕ → Type 0) → ((text : List ℕ) → T text → U text) → Ran on x T → Ran on x U
+ran_as on x T U so r = record { chronicle = r.chronicle; history = r.history; stamps = r.stamps; early = r.early; printed = so _ r.printed }
+
+serves_as : (on : AllRegions) (asked : Purpose) (x : Script) (T U : List ℕ → Type 0) → ((text : List ℕ) → T text → U text) → Serves on asked T x → Serves on asked U x
+serves_as on purpose.Replay x T U so s = (s.0, ran_as on x T U so s.1)
+serves_as on purpose.Check x T U so s = so _ s
+serves_as on purpose.Plan x T U so s = so _ s
+
+-- what a command does, its text taken in another way
+pub does_as : (on : AllRegions) (c : Command) (left left' : Option (List ℕ)) (T U : List ℕ → Type 0) → ((text : List ℕ) → T text → U text) → Does on c left left' T → Does on c left left' U
+does_as on (command.Scenario asked) left left' T U so d =
+    record { bytes = d.bytes; scenario = d.scenario; read = d.read; end = d.end; text = d.text; holds = serves_as on asked d.scenario T U so d.holds }
+does_as on (command.Code n k) left left' T U so d = (d.0, so _ d.1)
+
+refuses_scenario_as : (asked : Purpose) (x : Script) (T U : List ℕ → Type 0) → ((text : List ℕ) → T text → U text) → RefusesScenario asked T x → RefusesScenario asked U x
+refuses_scenario_as purpose.Replay x T U so r = (r.0, so _ r.1)
+refuses_scenario_as purpose.Check x T U so r = r
+refuses_scenario_as purpose.Plan x T U so r = r
+
+-- what a command refuses, its line taken in another way
+pub refuses_as : (c : Command) (left left' : Option (List ℕ)) (T U : List ℕ → Type 0) → ((text : List ℕ) → T text → U text) → Refuses c left left' T → Refuses c left left' U
+refuses_as (command.Scenario asked) left left' T U so (inl r) =
+    inl (record { bytes = r.bytes; read = r.read; most = r.most; end = r.end; line = r.line; why = r.why; refused = r.refused; printed = so _ r.printed })
+refuses_as (command.Scenario asked) left left' T U so (inr d) =
+    inr (record { bytes = d.bytes; scenario = d.scenario; read = d.read; end = d.end; text = d.text; holds = refuses_scenario_as asked d.scenario T U so d.holds })
+refuses_as (command.Code n k) left left' T U so r = r
+
+-- a front that was taken, where nothing more was
+pub front_later : (taken middle taken' : Option (List ℕ)) (text : List ℕ) → taken' ≡ middle → TakesFront taken middle text → TakesFront taken taken' text
+front_later taken middle taken' text same front = (front.0, front.1, front.2, same ∙ front.3)
+
+-- a line that was taken, where further calls of the sink may have failed
+pub line_later : (taken middle taken' : Option (List ℕ)) (before now later : ℕ) (line : List ℕ) → taken' ≡ middle → now ≤ later
+    → TakesLine taken middle before now line → TakesLine taken taken' before later line
+line_later taken middle taken' before now later line same more (inl whole) = inl (same ∙ whole)
+line_later taken middle taken' before now later line same more (inr (front, rose)) =
+    inr ((front.0, front.1, front.2, same ∙ front.3), rose_before before now later rose more)
+
+-- ---- how much was read
+
+nothing : (left : Option (List ℕ)) → prepend_known [] left ≡ left
+nothing None = refl
+nothing (Some xs) = refl
+
+pub reads_none : (most : ℕ) (left left' : Option (List ℕ)) → left' ≡ left → ReadsAtMost most left left'
+reads_none most left left' same = ([], sym same ∙ sym (nothing left'), omega arith)
+
+-- what was read in two parts
+pub reads_both : (front back : List ℕ) (left middle left' : Option (List ℕ)) → left ≡ prepend_known front middle → middle ≡ prepend_known back left'
+    → left ≡ prepend_known (front ++ back) left'
+reads_both front back left middle None first second = first ∙ ap (prepend_known front) second
+reads_both front back left middle (Some xs) first second = first ∙ ap (prepend_known front) second ∙ ap Some (sym (append_assoc front back xs))

@@ -1,0 +1,15 @@
+use Rattle.std.proofs.Common.{[], ◌∷◌, codes, refl}
+use Rattle.std.proofs.lemmas.Result.{err_from_is_err_and}
+use Rattle.cod_print.specs.Pieces.{hex_word}
+use Rattle.cod_print.proofs.Fronts.{front_of, puts_behind, puts_same}
+use Rattle.cod_tool.proofs.coding.coefficient.Goals as goal
+
+pub returns-in_err-text-clause-text : goal.returns-in_err-text-clause-text
+returns-in_err-text-clause-text g c =
+    let p = err_from_is_err_and c.from_residual.result c.from_residual.ensures.1 in
+    rw p.1 (front_of _ _ (32 ∷ hex_word (c.args.byte ∷ [])) (codes " ") (hex_word (c.args.byte ∷ [])) refl c.in_err-text.ensures.text)
+
+pub returns-clause-text : goal.returns-clause-text
+returns-clause-text g c =
+    puts_behind c.text-2.result _ _ _ (codes " ") (hex_word (c.args.byte ∷ [])) c.in_ok-text.ensures.text
+    (puts_same c.text-2.result _ _ _ _ c.digits.ensures c.text-2.ensures.text)

@@ -1,0 +1,16 @@
+-- What was done before the flush, said of the state behind it.
+use Rattle.std.proofs.Common.{sym, ◌∙◌, inl, inr, arith}
+use Rattle.cod_tool.proofs.Flushed.{does_as, front_later, line_later, refuses_as, whole_is_front}
+use Rattle.cod_tool.proofs.top.tool.Goals as goal
+
+pub returns-clause-refused : goal.returns-clause-refused
+returns-clause-refused g c other is three =
+    let status = sym (c.finish.ensures.kept (λ five. omega (arith, three, five))) ∙ three in
+    refuses_as other _ _ _ _ (λ text line. line_later _ _ _ _ _ _ text c.finish.ensures.same c.finish.ensures.later line)
+    (c.perform-status.ensures.refused other is status)
+
+pub returns-clause-front : goal.returns-clause-front
+returns-clause-front g c other is five = elim (c.finish.ensures.failed five) [
+  | inl status ↦ does_as _ other _ _ _ _ (λ text front. front_later _ _ _ text c.finish.ensures.same front) (c.perform-status.ensures.front other is status)
+  | inr done ↦ does_as _ other _ _ _ _ (λ text all. front_later _ _ _ text c.finish.ensures.same (whole_is_front _ _ text all)) (c.perform-status.ensures.done other is done.0)
+]

@@ -1,0 +1,32 @@
+-- The commands of the program, by its words.
+use Rattle.std.specs.Prelude.{ℕ, ◌≤◌, ◌&&◌, nat_le, if◌then◌else◌, List, [], ◌∷◌, codes, Option, Some, None}
+use Rattle.std.specs.Str.{bytes_eq}
+use Rattle.cod_words.specs.Words.{number_of}
+use Rattle.cod_tool.specs.declared.command.Command.{Command}
+use Rattle.cod_tool.specs.declared.command.Command.TheVariants.{Scenario, Code}
+use Rattle.cod_tool.specs.declared.command.Purpose.TheVariants.{Replay, Check, Plan}
+
+-- the command that one word is
+abbrev pub command_alone : List ℕ → Option Command
+command_alone word =
+    if bytes_eq word (codes "replay") then Some (Scenario Replay)
+    else if bytes_eq word (codes "check") then Some (Scenario Check)
+    else if bytes_eq word (codes "plan") then Some (Scenario Plan)
+    else None
+
+-- `code N K`, where 1 ≤ K ≤ N ≤ 16
+abbrev pub code_of : (n k : Option ℕ) → Option Command
+code_of (Some n) (Some k) = if nat_le 1 k && (nat_le k n && nat_le n 16) then Some (Code n k) else None
+code_of _ _ = None
+
+-- a code has at least one data column, and at most 16 columns
+pub record IsCode (n k : ℕ) : Type 0 where
+  pub some_data : 1 ≤ k
+  pub within_columns : k ≤ n
+  pub most : n ≤ 16
+
+-- `replay`, `check`, `plan`, or `code N K` with two numbers of 1 to 10 digits; no other words are a command
+abbrev pub command_of : List (List ℕ) → Option Command
+command_of (word ∷ []) = command_alone word
+command_of (word ∷ n ∷ k ∷ []) = if bytes_eq word (codes "code") then code_of (number_of n) (number_of k) else None
+command_of _ = None

@@ -1,0 +1,5 @@
+pub mod Keeps
+pub mod Numbering
+pub mod Prefixes
+pub mod Sitting
+pub mod Totals

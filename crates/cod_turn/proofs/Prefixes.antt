@@ -1,0 +1,46 @@
+-- Beginnings of one list, and the calls of a caller in them.
+use Rattle.std.proofs.Common.{◌≡◌, ℕ, ◌≤◌, List, [], ◌∷◌, ◌++◌, length, Bool, true, false, cond, refl, ap, sym, ◌∙◌, arith, append_assoc, length-append}
+use mathlib.Core.List.{IsPrefix}
+use Rattle.cod_chronicle.specs.declared.entry.Entry.{Entry}
+use Rattle.cod_turn.specs.Turning.{calls_of, is_by}
+
+module _ {A : Type 0} where
+  pub prefix_self : (xs : List A) → IsPrefix xs xs
+  prefix_self [] = ([], refl)
+  prefix_self (x ∷ xs) = let r = prefix_self xs in (r.0, ap (λ ys. x ∷ ys) r.1)
+
+  pub prefix_trans : (xs ys zs : List A) → IsPrefix xs ys → IsPrefix ys zs → IsPrefix xs zs
+  prefix_trans xs ys zs p q = (p.0 ++ q.0, sym (append_assoc xs p.0 q.0) ∙ (ap (λ w. w ++ q.0) p.1 ∙ q.1))
+
+  -- of two beginnings of one list the shorter begins the longer
+  pub prefix_shorter : (xs ys zs : List A) → IsPrefix xs zs → IsPrefix ys zs → length xs ≤ length ys → IsPrefix xs ys
+  prefix_shorter [] ys zs p q le = (ys, refl)
+  prefix_shorter (x ∷ xs) [] zs p q le = absurd (omega arith)
+  prefix_shorter (x ∷ xs) (y ∷ ys) [] p q le = absurd (cc (p.1))
+  prefix_shorter (x ∷ xs) (y ∷ ys) (z ∷ zs) p q le =
+      let heads : x ≡ y = cc (p.1, q.1) in
+      let rest = prefix_shorter xs ys zs (p.0, cc (p.1)) (q.0, cc (q.1)) (omega arith) in
+      (rest.0, cc (heads, rest.1))
+
+  -- a beginning as long as the whole is the whole
+  pub prefix_whole : (xs ys : List A) → IsPrefix xs ys → length ys ≤ length xs → xs ≡ ys
+  prefix_whole [] [] p le = refl
+  prefix_whole [] (y ∷ ys) p le = absurd (omega arith)
+  prefix_whole (x ∷ xs) [] p le = absurd (cc (p.1))
+  prefix_whole (x ∷ xs) (y ∷ ys) p le =
+      let rest = prefix_whole xs ys (p.0, cc (p.1)) (omega arith) in cc (p.1, rest)
+
+  pub prefix_length : (xs ys : List A) → IsPrefix xs ys → length xs ≤ length ys
+  prefix_length xs ys p = omega (arith, sym (ap length p.1) ∙ length-append xs p.0)
+
+pub calls_of-append : (c : ℕ) (xs ys : List Entry) → calls_of c (xs ++ ys) ≡ calls_of c xs ++ calls_of c ys
+calls_of-append c [] ys = refl
+calls_of-append c (x ∷ xs) ys = by_case (is_by c x) (calls_of-append c xs ys)
+  where
+    by_case : (b : Bool) → calls_of c (xs ++ ys) ≡ calls_of c xs ++ calls_of c ys → cond b (x ∷ calls_of c (xs ++ ys)) (calls_of c (xs ++ ys)) ≡ cond b (x ∷ calls_of c xs)
+        (calls_of c xs) ++ calls_of c ys
+    by_case true e = ap (λ zs. x ∷ zs) e
+    by_case false e = e
+
+pub calls_prefix : (c : ℕ) (xs ys : List Entry) → IsPrefix xs ys → IsPrefix (calls_of c xs) (calls_of c ys)
+calls_prefix c xs ys p = (calls_of c p.0, sym (calls_of-append c xs p.0) ∙ ap (calls_of c) p.1)
