@@ -1,12 +1,15 @@
 -- A column from other columns.
-use Rattle.std.proofs.Common.{◌≡◌, ℕ, ◌^◌, ◌<◌, ◌+◌, inl, inr, Bool, true, bit_xor, refl, sym, ap, ap₂, ◌∙◌, arith, List, [], ◌∷◌, map, get_or, length}
+use Rattle.std.proofs.Common.{◌≡◌, ℕ, ◌^◌, ◌<◌, ◌≤◌, ◌+◌, inl, inr, Bool, true, bit_xor, refl, sym, ap, ap₂, ◌∙◌, arith, List, [], ◌∷◌, map, get_or, length}
 use Rattle.std.proofs.Math.Nat.{lt_of_lt_of_le}
 use Rattle.std.proofs.Math.Pow.{pow_mono}
 use Rattle.std.specs.List.{range_with_len, filter}
 use Rattle.std.proofs.lemmas.List.FromFn.{get_or-map-range_with_len}
 use Rattle.cod_field.specs.Field.{product}
 use Rattle.cod_code.specs.Columns.{combination, columns_of, has_column, weight, decode_row_at}
+use Rattle.std.specs.Prelude.{count_ones, false}
+use Rattle.cod_code.specs.Codewords.{IsCodeword}
 use Rattle.cod_code.specs.Decoding.{decoded, DecodedIsPlace}
+use Rattle.cod_code.proofs.Sums.{decode_row_place, decode_weight_elsewhere}
 use Rattle.cod_code.proofs.Quotients.{IsIn, weight_lt}
 use Rattle.cod_code.proofs.Interpolation.{total, total_nil, total_cons}
 use Rattle.cod_code.proofs.Places.{filter_in, combination_total, row_by}
@@ -54,3 +57,13 @@ decoded_by_sources sources wanted byte =
     (λ t i. let h = filter_in p t 0 16 i in let lt : t < 0 + 16 = h.1 in let below : t < 16 = omega arith in
     ap (product (g t)) (get_or-map-range_with_len byte 0 16 t t 0 below (omega arith)))
     ∙ sym (combination_of g byte (filter p (range_with_len 0 16)))
+
+-- ---- what the row of `decode_row_at` does
+
+pub row_elsewhere : (sources wanted j : ℕ) → j < 16 → has_column sources j ≡ false → get_or (decode_row_at sources wanted) j 0 ≡ 0
+row_elsewhere sources wanted j lt none = decode_row_place sources wanted j lt ∙ decode_weight_elsewhere sources wanted j none
+
+pub row_decodes : (n k sources wanted : ℕ) (v : List ℕ) → n ≤ 16 → IsCodeword n k v → count_ones sources ≡ k → sources < 2 ^ n → wanted < n
+    → combination (decode_row_at sources wanted) v ≡ get_or v wanted 0
+row_decodes n k sources wanted v most c ones below h =
+    decodes n k v sources wanted most c (columns_count sources (lt_of_lt_of_le below (pow_mono most)) ∙ ones) below h

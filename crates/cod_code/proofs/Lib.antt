@@ -10,3 +10,6 @@ pub mod Decoding
 pub mod Count
 pub mod Sums
 pub mod Segments
+pub mod LowestBits
+pub mod Extending
+pub mod Changing

@@ -8,7 +8,7 @@ use Rattle.std.proofs.Math.Nat.{mul-le-mul_right, suc-mul}
 use Rattle.cod_field.specs.Field.{product}
 use Rattle.cod_field.proofs.Laws.{product_zero}
 use Rattle.cod_code.specs.Codewords.{AreBytes, IsCodeword}
-use Rattle.cod_code.specs.Columns.{gamma, row_at, combination}
+use Rattle.cod_code.specs.Columns.{gamma, row_at, combination, sum_below}
 use Rattle.cod_code.specs.Encoding.{coded}
 use Rattle.cod_code.specs.Segments.{across, column_byte, column}
 use Rattle.cod_code.specs.SegmentLaws.{HasCodewordBytes, ColumnHasCodewordBytes, ColumnsAreCodewords, DataColumnIsBlock, RowGivesColumn, DecodingGivesColumn, BlockChangesColumn, OtherPlacesStay}
@@ -16,7 +16,7 @@ use Rattle.cod_code.specs.SegmentLaws.{ZerosHaveZeroColumns}
 use Rattle.cod_code.proofs.CodewordLaws.{data_begin_one_codeword, has_below}
 use Rattle.cod_code.proofs.Encoding.{codeword_byte, coded_is_codeword, coded_changes, gamma_lt}
 use Rattle.cod_code.proofs.Decoding.{decoded_is_place}
-use Rattle.cod_code.proofs.Sums.{sum_below, sum_below_none, sum_below_lt, sum_below_more, coded_by_sum, row_codes}
+use Rattle.cod_code.proofs.Sums.{sum_below_none, sum_below_lt, sum_below_more, coded_by_sum, row_codes}
 
 pub across_length : (k block : ℕ) (segment : List ℕ) (place : ℕ) → length (across k block segment place) ≡ k
 unfolding across

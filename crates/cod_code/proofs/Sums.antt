@@ -8,7 +8,7 @@ use Rattle.std.proofs.lemmas.List.FromFn.{length-map-range_with_len, get_or-map-
 use Rattle.std.proofs.lemmas.Bool.Decides.{nat_tests}
 use Rattle.cod_field.specs.Field.{product}
 use Rattle.cod_field.proofs.Laws.{product_lt, product_zero_left}
-use Rattle.cod_code.specs.Columns.{gamma, weight, columns_of, has_column, row_at, decode_row_at, combination}
+use Rattle.cod_code.specs.Columns.{gamma, weight, columns_of, has_column, row_at, decode_row_at, combination, sum_below}
 use Rattle.cod_code.specs.Decoding.{decoded}
 use Rattle.cod_code.specs.Encoding.{coded}
 
@@ -20,10 +20,6 @@ combination_push (x ∷ xs) [] a b e = absurd (omega arith)
 combination_push (x ∷ xs) (y ∷ ys) a b e =
     let e1 : length xs ≡ length ys = omega arith in
     ap (bit_xor (product x y)) (combination_push xs ys a b e1) ∙ sym (xor_assoc (product x y) (combination xs ys) (product a b))
-
--- the sum over the first `count` places, where the place j has the coefficient c j and the byte b j
-unfoldable pub sum_below : (coefficient byte : ℕ → ℕ) (count : ℕ) → ℕ
-sum_below coefficient byte count = combination (map coefficient (range_with_len 0 count)) (map byte (range_with_len 0 count))
 
 pub sum_below_none : (c b : ℕ → ℕ) → sum_below c b 0 ≡ 0
 unfolding sum_below combination

@@ -47,3 +47,7 @@ unfoldable pub combination : List ℕ → List ℕ → ℕ
 combination [] ys = 0
 combination (x ∷ xs) [] = 0
 combination (x ∷ xs) (y ∷ ys) = bit_xor (product x y) (combination xs ys)
+
+-- the sum over the first `count` places, where the place j has the coefficient c j and the byte b j
+unfoldable pub sum_below : (coefficient byte : ℕ → ℕ) (count : ℕ) → ℕ
+sum_below coefficient byte count = combination (map coefficient (range_with_len 0 count)) (map byte (range_with_len 0 count))

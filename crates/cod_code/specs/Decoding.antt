@@ -14,3 +14,18 @@ DecodedIsPlace =
     → n ≤ 16 → IsCodeword n k v → count_ones sources ≡ k → sources < 2 ^ n → wanted < n
     → ((j : ℕ) → has_column sources j ≡ true → byte j ≡ slice_index v j)
     → decoded sources wanted byte ≡ slice_index v wanted
+
+-- A codeword that has the bytes at the sources, and elsewhere what is decoded from them. By `DecodedIsPlace` it is the only
+-- one that has them.
+pub record Extends (n k sources : ℕ) (byte : ℕ → ℕ) : Type 0 where
+  pub word : List ℕ
+  pub is : IsCodeword n k word
+  pub sources_are : (j : ℕ) → has_column sources j ≡ true → slice_index word j ≡ byte j
+  pub decoded_are : (i : ℕ) → i < n → decoded sources i byte ≡ slice_index word i
+
+-- bytes at as many columns as there are data columns are those of a codeword
+abbrev pub SourcesBeginOneCodeword : Type 0
+SourcesBeginOneCodeword =
+    (n k sources : ℕ) (byte : ℕ → ℕ)
+    → n ≤ 16 → count_ones sources ≡ k → sources < 2 ^ n → ((j : ℕ) → byte j < 256)
+    → Extends n k sources byte

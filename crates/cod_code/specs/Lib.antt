@@ -5,3 +5,4 @@ pub mod Encoding
 pub mod Decoding
 pub mod Segments
 pub mod SegmentLaws
+pub mod Choosing

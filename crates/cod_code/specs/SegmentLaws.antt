@@ -3,7 +3,7 @@ use Rattle.std.specs.Prelude.{◌≡◌, ◌≢◌, ℕ, ◌+◌, ◌*◌, ◌^�
 use Rattle.std.specs.List.{range_with_len}
 use Rattle.cod_field.specs.Field.{product}
 use Rattle.cod_code.specs.Codewords.{AreBytes, IsCodeword}
-use Rattle.cod_code.specs.Columns.{gamma, row_at, has_column, combination}
+use Rattle.cod_code.specs.Columns.{gamma, row_at, has_column, combination, sum_below}
 use Rattle.cod_code.specs.Decoding.{decoded}
 use Rattle.cod_code.specs.Segments.{across, column_byte, column}
 
@@ -70,3 +70,11 @@ OtherPlacesStay =
 abbrev pub ZerosHaveZeroColumns : Type 0
 ZerosHaveZeroColumns =
     (k block i : ℕ) → column k block i (replicate (k * block) 0) ≡ replicate block 0
+
+-- where each block changes at a place, each column does by the sum of the changes, each times its coefficient
+abbrev pub BlocksChangeColumn : Type 0
+BlocksChangeColumn =
+    (k block i place : ℕ) (before after : List ℕ) (change : ℕ → ℕ)
+    → AreBytes before → AreBytes after
+    → ((j : ℕ) → j < k → slice_index after (j * block + place) ≡ bit_xor (slice_index before (j * block + place)) (change j))
+    → column_byte k block i after place ≡ bit_xor (column_byte k block i before place) (sum_below (gamma k i) change k)

@@ -2,9 +2,9 @@
 
 ghost use Rattle.cod_code.specs.Laws.{QuotientIsTheOne, AnyPlacesDetermine, DataBeginOneCodeword, PlaceIsSum, CoefficientsAddUpToOne};
 ghost use Rattle.cod_code.specs.Encoding.{CodedIsCodeword, CodedChanges};
-ghost use Rattle.cod_code.specs.Decoding.{DecodedIsPlace};
+ghost use Rattle.cod_code.specs.Decoding.{DecodedIsPlace, SourcesBeginOneCodeword};
 ghost use Rattle.cod_code.specs.SegmentLaws.{ColumnHasCodewordBytes, ColumnsAreCodewords, DataColumnIsBlock, RowGivesColumn, DecodingGivesColumn};
-ghost use Rattle.cod_code.specs.SegmentLaws.{BlockChangesColumn, OtherPlacesStay, ZerosHaveZeroColumns};
+ghost use Rattle.cod_code.specs.SegmentLaws.{BlockChangesColumn, BlocksChangeColumn, OtherPlacesStay, ZerosHaveZeroColumns};
 
 /// The quotient of two bytes is the one byte whose product with the divisor is the dividend.
 #[tactic(auto, using(crate::proofs::Quotients::quotient_is_the_one))]
@@ -51,6 +51,11 @@ pub fn decoded_is_place()
     ensures { DecodedIsPlace }
 {}
 
+/// Bytes at as many columns as there are data columns begin exactly one codeword.
+pub fn sources_begin_one_codeword()
+    ensures { SourcesBeginOneCodeword }
+{}
+
 /// A column of a segment is the one list that has the bytes of the codewords of its places.
 pub fn column_has_codeword_bytes()
     ensures { ColumnHasCodewordBytes }
@@ -82,6 +87,11 @@ pub fn decoding_gives_column()
 #[tactic(auto, using(crate::proofs::Segments::block_changes_column))]
 pub fn block_changes_column()
     ensures { BlockChangesColumn }
+{}
+
+/// A change of several blocks at a place changes each column there by the sum of the changes, each times its coefficient.
+pub fn blocks_change_column()
+    ensures { BlocksChangeColumn }
 {}
 
 /// Where no block changes, no column does.

@@ -9,8 +9,10 @@ ghost use Rattle.std.specs.Prelude.{◌≡◌, ◌≢◌, ℕ, ◌^◌, ◌<◌,
 ghost use Rattle.cod_code.specs.Codewords.{IsCodeword};
 ghost use Rattle.cod_code.specs.Columns.{row_at, decode_row_at, columns_of, has_column, weight, combination, quotient, gamma};
 
+pub use choosing::{lowest, marked};
 use cod_field::{inv, mul};
 
+mod choosing;
 pub mod laws;
 
 /// A code with `n` columns, of which the first `k` are data and the others parity.

@@ -1,13 +1,12 @@
 -- Laws of sums of blocks: their length, their places, parts, order and what cancels.
-use Rattle.std.proofs.Common.{◌≡◌, ℕ, zero, suc, subst, ◌+◌, ◌<◌, ◌≤◌, bit_xor, refl, sym, ap, ap₂, ◌∙◌, arith, List, [], ◌∷◌, ◌++◌, length, get_or, take, drop, drop-cons, replicate, map, Bor}
+use Rattle.std.proofs.Common.{◌≡◌, ℕ, zero, suc, subst, ◌+◌, ◌<◌, ◌≤◌, bit_xor, refl, sym, ap, ap₂, ◌∙◌, arith, List, [], ◌∷◌, length, get_or, take, drop, drop-cons, replicate, map, Bor}
 use Rattle.std.specs.Prelude.{All}
-use Rattle.std.specs.Int.Bits.{xor_assoc, xor_zero_r, xor_self}
+use Rattle.std.specs.Int.Bits.{xor_assoc, xor_zero_r}
 use Rattle.std.specs.Simd.Lanes.{zip2, chunk}
-use Rattle.std.proofs.lemmas.Nat.{xor_comm, xor_lt}
+use Rattle.std.proofs.lemmas.Nat.{xor_comm}
 use Rattle.std.proofs.lemmas.List.{take-map, drop-map}
 use Rattle.std.proofs.lemmas.Simd.{length-zip2}
 use Rattle.cod_field.specs.Field.{product, terms}
-use Rattle.cod_field.proofs.Laws.{product_add, product_zero_left, product_one_left, product_lt}
 use Rattle.cod_kernel.specs.Sums.{added, added_scaled, added_all_scaled, sum_at}
 
 -- ---- of any function, place by place

@@ -1,8 +1,9 @@
 //! Decoding rows of a code, of which the latest used are kept.
 #![tactic(auto)]
 
-ghost use Rattle.std.specs.Prelude.{◌≡◌, ◌^◌, ◌<◌, count_ones, IfOk};
-ghost use Rattle.cod_code.specs.Columns.{decode_row_at};
+ghost use Rattle.std.specs.Prelude.{◌≡◌, ◌^◌, ◌<◌, ℕ, List, slice_index, count_ones, IfOk, false};
+ghost use Rattle.cod_code.specs.Codewords.{IsCodeword};
+ghost use Rattle.cod_code.specs.Columns.{combination, decode_row_at, has_column};
 ghost use Rattle.cod_code.specs.declared.Code.{Code};
 ghost use Rattle.cod_rows.specs.Cached.{AreRows};
 
@@ -57,6 +58,8 @@ impl Rows {
         requires below { sources < 2 ^ self.old.n }
         requires wanted { wanted < self.old.n }
         ensures same { result ≡ decode_row_at sources wanted }
+        ensures elsewhere { (j : ℕ) → j < 16 → has_column sources j ≡ false → slice_index result j ≡ 0 }
+        ensures decodes { (v : List ℕ) → IsCodeword self.old.n self.old.k v → combination result v ≡ slice_index v wanted }
         ensures code { self.new ≡ self.old }
     {
         let key = (sources, wanted);

@@ -2,9 +2,7 @@ use Rattle.std.proofs.Common.{◌≡◌, ℕ, ap, ◌∙◌, arith, List, length
 use Rattle.std.proofs.lemmas.Bool.Decides.{nat_tests}
 use Rattle.std.proofs.lemmas.List.FromFn.{fill_by_all}
 use Rattle.cod_code.specs.Columns.{decode_row_at, weight, columns_of, has_column, combination}
-use Rattle.cod_code.proofs.CodewordLaws.{decodes}
-use Rattle.cod_code.proofs.Count.{columns_count}
-use Rattle.cod_code.proofs.Sums.{decode_row_place, decode_weight_elsewhere}
+use Rattle.cod_code.proofs.Decoding.{row_decodes, row_elsewhere}
 use Rattle.cod_code.proofs.Code.decode_row.Goals as goal
 
 below_all : (m : ℕ) → m < 16 → nat_lt m 16 ≡ true
@@ -25,9 +23,8 @@ returns c =
     (λ m h. c.loop-j.invariant.filled m h ∙ ap (λ j. if nat_lt m j && has_column c.args.sources m then weight (columns_of c.args.sources) m c.args.wanted else 0) all) in
     record {
       places = e;
-      elsewhere = λ m lt none. ap (λ (r : List ℕ). get_or r m 0) e ∙ decode_row_place c.args.sources c.args.wanted m lt ∙ decode_weight_elsewhere c.args.sources c.args.wanted m none;
+      elsewhere = λ m lt none. ap (λ (r : List ℕ). get_or r m 0) e ∙ row_elsewhere c.args.sources c.args.wanted m lt none;
       decodes = λ v w.
           ap (λ r. combination r v) e
-          ∙ decodes c.args.self.now.n c.args.self.now.k v c.args.sources c.args.wanted c.args.self.now.most w
-          (columns_count c.args.sources (omega arith) ∙ c.requires.count) c.requires.below c.requires.wanted;
+          ∙ row_decodes c.args.self.now.n c.args.self.now.k c.args.sources c.args.wanted v c.args.self.now.most w c.requires.count c.requires.below c.requires.wanted;
     }

@@ -1,6 +1,6 @@
 use Rattle.std.proofs.Common.{◌≡◌, ◌+◌, ◌-◌, ◌*◌, ◌∙◌, ap, sym, length, arith}
 use Rattle.std.specs.Simd.Lanes.{chunk}
-use Rattle.cod_kernel.proofs.Places.{added_upto, added_step, added_last, sum_whole}
+use Rattle.cod_kernel.proofs.Places.{added_upto, added_step, added_last, added_whole, sum_whole}
 use Rattle.cod_kernel.proofs.passes.add_block.Goals as goal
 
 pub wide-preserved : goal.wide-preserved
@@ -27,13 +27,17 @@ narrow-preserved g c =
           (omega arith) (omega arith) c.narrow.invariant.so_far);
     }
 
-pub returns : goal.returns
-returns g c =
+pub returns-then-dst-ne0 : goal.returns-then-dst-ne0
+returns-then-dst-ne0 g c =
     let start = c.args.dst.now in
     let bs = g.B.Block.bytes c.args.block in
     let at = length start - 16 in
     let kept = c.set_narrow.auto.dst ∙ c.narrow.invariant.same_length in
     sum_whole start c.set_narrow.new.dst bs c.requires kept (λ m lt.
-    added_last (length c.narrow.dst - 16) (c.narrow.step * 16) start c.narrow.dst c.set_narrow.new.dst bs c.narrow_at-before.result c.narrow-2.result
-    c.set_narrow.ensures (c.narrow_at-before.ensures ∙ ap (λ n. chunk (n - 16) 16 start) (sym c.narrow.invariant.same_length)) c.narrow-2.ensures
+    added_last (length c.narrow.dst - 16) (c.narrow.step * 16) start c.narrow.dst c.set_narrow.new.dst bs c.narrow_at-before.result c.narrow-then-dst-ne0.result
+    c.set_narrow.ensures (c.narrow_at-before.ensures ∙ ap (λ n. chunk (n - 16) 16 start) (sym c.narrow.invariant.same_length)) c.narrow-then-dst-ne0.ensures
     (omega arith) (omega arith) (omega arith) (omega arith) c.narrow.invariant.so_far m (omega arith))
+
+pub returns-else-dst-ne0 : goal.returns-else-dst-ne0
+returns-else-dst-ne0 g c =
+    added_whole c.args.dst.now c.narrow.dst (g.B.Block.bytes c.args.block) (c.narrow.step * 16) c.requires c.narrow.invariant.same_length (omega arith) c.narrow.invariant.so_far

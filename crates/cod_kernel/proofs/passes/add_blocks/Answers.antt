@@ -1,6 +1,6 @@
 use Rattle.std.proofs.Common.{◌≡◌, ◌+◌, ◌-◌, ◌*◌, ◌∙◌, ap, sym, length, arith}
 use Rattle.std.specs.Simd.Lanes.{chunk}
-use Rattle.cod_kernel.proofs.Places.{added_upto, added_step, added_last, sum_whole}
+use Rattle.cod_kernel.proofs.Places.{added_upto, added_step, added_last, added_whole, sum_whole}
 use Rattle.cod_kernel.proofs.passes.add_blocks.Goals as goal
 
 pub wide-preserved : goal.wide-preserved
@@ -36,8 +36,8 @@ narrow-preserved g c =
           (omega arith) (omega arith) c.narrow.invariant.second);
     }
 
-pub returns-clause-first : goal.returns-clause-first
-returns-clause-first g c =
+pub returns-then-first-ne0-clause-first : goal.returns-then-first-ne0-clause-first
+returns-then-first-ne0-clause-first g c =
     let start = c.args.first.now in
     let xs = g.A.Block.bytes c.args.a in
     let kept = c.set_narrow.auto.dst ∙ c.narrow.invariant.first_length in
@@ -47,13 +47,21 @@ returns-clause-first g c =
     c.set_narrow.ensures (c.narrow_at-before_first.ensures ∙ ap (λ n. chunk (n - 16) 16 start) same) c.narrow-last_first.ensures
     (omega arith) (omega arith) (omega arith) (omega arith) c.narrow.invariant.first m (omega arith))
 
-pub returns-clause-second : goal.returns-clause-second
-returns-clause-second g c =
+pub returns-then-first-ne0-clause-second : goal.returns-then-first-ne0-clause-second
+returns-then-first-ne0-clause-second g c =
     let start = c.args.second.now in
     let xs = g.B.Block.bytes c.args.b in
-    let kept = c.set_narrow-2.auto.dst ∙ c.narrow.invariant.second_length in
+    let kept = c.set_narrow-then-first-ne0.auto.dst ∙ c.narrow.invariant.second_length in
     let same : length c.args.first.now ≡ length c.narrow.first = sym c.narrow.invariant.first_length in
-    sum_whole start c.set_narrow-2.new.dst xs c.requires.second kept (λ m lt.
-    added_last (length c.narrow.first - 16) (c.narrow.step * 16) start c.narrow.second c.set_narrow-2.new.dst xs c.narrow_at-before_second.result c.narrow-last_second.result
-    c.set_narrow-2.ensures (c.narrow_at-before_second.ensures ∙ ap (λ n. chunk (n - 16) 16 start) same) c.narrow-last_second.ensures
+    sum_whole start c.set_narrow-then-first-ne0.new.dst xs c.requires.second kept (λ m lt.
+    added_last (length c.narrow.first - 16) (c.narrow.step * 16) start c.narrow.second c.set_narrow-then-first-ne0.new.dst xs c.narrow_at-before_second.result c.narrow-last_second.result
+    c.set_narrow-then-first-ne0.ensures (c.narrow_at-before_second.ensures ∙ ap (λ n. chunk (n - 16) 16 start) same) c.narrow-last_second.ensures
     (omega arith) (omega arith) (omega arith) (omega arith) c.narrow.invariant.second m (omega arith))
+
+pub returns-else-first-ne0-clause-first : goal.returns-else-first-ne0-clause-first
+returns-else-first-ne0-clause-first g c =
+    added_whole c.args.first.now c.narrow.first (g.A.Block.bytes c.args.a) (c.narrow.step * 16) c.requires.first c.narrow.invariant.first_length (omega arith) c.narrow.invariant.first
+
+pub returns-else-first-ne0-clause-second : goal.returns-else-first-ne0-clause-second
+returns-else-first-ne0-clause-second g c =
+    added_whole c.args.second.now c.narrow.second (g.B.Block.bytes c.args.b) (c.narrow.step * 16) c.requires.second c.narrow.invariant.second_length (omega arith) c.narrow.invariant.second

@@ -33,18 +33,26 @@ narrow-preserved g c =
           (omega arith) (omega arith) c.narrow.invariant.second);
     }
 
-pub returns-clause-first : goal.returns-clause-first
-returns-clause-first g c =
+pub returns-then-first-ne0-clause-first : goal.returns-then-first-ne0-clause-first
+returns-then-first-ne0-clause-first g c =
     let xs = g.A.Block.bytes c.args.a in
     let at = length c.narrow.first - 16 in
-    set_whole c.set_narrow-2.new.dst xs (at + 16) (c.set_narrow-2.auto.dst ∙ c.narrow.invariant.first_length ∙ sym c.requires.first) (omega arith)
-    (set_step at 16 c.narrow.first c.set_narrow-2.new.dst xs c.narrow-last_first.result c.set_narrow-2.ensures c.narrow-last_first.ensures (omega arith) (omega arith)
+    set_whole c.set_narrow-then-first-ne0.new.dst xs (at + 16) (c.set_narrow-then-first-ne0.auto.dst ∙ c.narrow.invariant.first_length ∙ sym c.requires.first) (omega arith)
+    (set_step at 16 c.narrow.first c.set_narrow-then-first-ne0.new.dst xs c.narrow-last_first.result c.set_narrow-then-first-ne0.ensures c.narrow-last_first.ensures (omega arith) (omega arith)
     (set_less c.narrow.first xs at (c.narrow.step * 16) (omega arith) c.narrow.invariant.first))
 
-pub returns-clause-second : goal.returns-clause-second
-returns-clause-second g c =
+pub returns-then-first-ne0-clause-second : goal.returns-then-first-ne0-clause-second
+returns-then-first-ne0-clause-second g c =
     let xs = g.B.Block.bytes c.args.b in
     let at = length c.narrow.first - 16 in
-    set_whole c.set_narrow-3.new.dst xs (at + 16) (c.set_narrow-3.auto.dst ∙ c.narrow.invariant.second_length ∙ sym c.requires.second) (omega arith)
-    (set_step at 16 c.narrow.second c.set_narrow-3.new.dst xs c.narrow-last_second.result c.set_narrow-3.ensures c.narrow-last_second.ensures (omega arith) (omega arith)
+    set_whole c.set_narrow-then-first-ne0-2.new.dst xs (at + 16) (c.set_narrow-then-first-ne0-2.auto.dst ∙ c.narrow.invariant.second_length ∙ sym c.requires.second) (omega arith)
+    (set_step at 16 c.narrow.second c.set_narrow-then-first-ne0-2.new.dst xs c.narrow-last_second.result c.set_narrow-then-first-ne0-2.ensures c.narrow-last_second.ensures (omega arith) (omega arith)
     (set_less c.narrow.second xs at (c.narrow.step * 16) (omega arith) c.narrow.invariant.second))
+
+pub returns-else-first-ne0-clause-first : goal.returns-else-first-ne0-clause-first
+returns-else-first-ne0-clause-first g c =
+    set_whole c.narrow.first (g.A.Block.bytes c.args.a) (c.narrow.step * 16) (c.narrow.invariant.first_length ∙ sym c.requires.first) (omega arith) c.narrow.invariant.first
+
+pub returns-else-first-ne0-clause-second : goal.returns-else-first-ne0-clause-second
+returns-else-first-ne0-clause-second g c =
+    set_whole c.narrow.second (g.B.Block.bytes c.args.b) (c.narrow.step * 16) (c.narrow.invariant.second_length ∙ sym c.requires.second) (omega arith) c.narrow.invariant.second
