@@ -6,7 +6,7 @@ use Rattle.cod_chronicle.specs.Standing.{OpenCalls}
 use Rattle.cod_seats.specs.Totals.{times}
 use Rattle.cod_seats.proofs.Totals.{times-here}
 use Rattle.cod_turn.specs.declared.view.View.{View}
-use Rattle.cod_turn.specs.Turning.{Follows, calls_of, callers, all_at}
+use Rattle.cod_turn.specs.Turning.{FollowsByOne, callers, all_at}
 use Rattle.cod_turn.proofs.Totals.{firsts-all_at}
 use Rattle.bench_turn.specs.declared.meter.Meter.{Meter}
 
@@ -22,13 +22,9 @@ nothing_open m c = None
 abbrev pub Happens : ℕ → List Entry → List ℕ → OpenCalls → List Entry → List ℕ → OpenCalls → Type 0
 Happens by h g o h' g' o' = Unit {0}
 
-pub follows : (cs : List ℕ) (one : (n : ℕ) × (cs ≡ n ∷ [])) (x y : Meter) → y.chronicle ≡ x.chronicle → Follows nothing list_of nothing nothing_open Happens cs x y
+pub follows : (cs : List ℕ) (one : (n : ℕ) × (cs ≡ n ∷ [])) (x y : Meter) → y.chronicle ≡ x.chronicle → FollowsByOne nothing list_of nothing nothing_open Happens cs x y
 follows cs one x y same = record {
-  same_name = refl;
-  begins = ([], append-nil x.chronicle ∙ sym same);
-  others_entries = λ c off. ap (calls_of c) same;
-  others_open = λ c off. refl;
   by = one.0;
   mine = subst (λ (ns : List ℕ). 0 < times one.0 ns) (sym one.1) (times-here one.0 []);
-  happens = tt;
+  step = record { name_stays = refl; added = []; grown = same ∙ sym (append-nil x.chronicle); calls = tt; others = λ c off. refl; happens = tt };
 }

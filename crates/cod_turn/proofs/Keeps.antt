@@ -12,7 +12,8 @@ use Rattle.atomic_table.proofs.Lists.{at_set, at_snoc, set_again}
 use Rattle.cod_chronicle.specs.declared.entry.Entry.{Entry}
 use Rattle.cod_turn.specs.declared.view.View.{View}
 use Rattle.cod_chronicle.specs.Standing.{OpenCalls}
-use Rattle.cod_turn.specs.Turning.{calls_of, all_at, firsts, callers, number, holding, nobody, left_of, right_of, both_of, held_by, Stays, Fits, Kept, starting, published, Meets, AreWithin}
+use Rattle.cod_chronicle.specs.Said.{calls_by}
+use Rattle.cod_turn.specs.Turning.{all_at, firsts, callers, number, holding, nobody, left_of, right_of, both_of, held_by, Stays, Fits, Kept, starting, published, Meets, AreWithin}
 use Rattle.cod_turn.specs.Turning.{counted, took, put_out}
 use Rattle.cod_seats.specs.Totals.{times, total, once_below, range}
 use Rattle.cod_seats.specs.Least.{lowest, higher, least_of, all_but_least}
@@ -98,7 +99,7 @@ module _ {T : Type 0} (name : T → List ℕ) (log : T → List Entry) (opened :
       (sym same) record { now = k.now; turn = k.turn; words = words; one = k.one; most = k.most; home = k.home; away = k.away; each = k.each; apart = k.apart; count = k.count; places = k.places }
 
   -- the others' calls stay
-  stays_on : (x y : T) (cs : List ℕ) → IsPrefix (log x) (log y) → ((c : ℕ) → times c cs ≡ 0 → calls_of c (log y) ≡ calls_of c (log x)) → ((c : ℕ) → times c cs ≡ 0 → opened y c ≡ opened x c)
+  stays_on : (x y : T) (cs : List ℕ) → IsPrefix (log x) (log y) → ((c : ℕ) → times c cs ≡ 0 → calls_by c (log y) ≡ calls_by c (log x)) → ((c : ℕ) → times c cs ≡ 0 → opened y c ≡ opened x c)
       → (ps : List (ℕ × T)) → ((c : ℕ) → 0 < times c (firsts ps) → times c cs ≡ 0) → Stay x ps → Stay y ps
   stays_on x y cs pre calls opens [] free st = tt
   stays_on x y cs pre calls opens (p ∷ ps) free st =
@@ -193,7 +194,7 @@ module _ {T : Type 0} (name : T → List ℕ) (log : T → List Entry) (opened :
 
   -- the value y takes the place of x, which the seat holds
   out_kept : (s : St) (k : Rule s) (id : ℕ) (v : V) (y : T) → get_elem? s.views id ≡ maybe.some v → v.hold ≡ Some k.now → 0 < length v.own
-      → name y ≡ name k.now → IsPrefix (log k.now) (log y) → ((c : ℕ) → times c (callers v) ≡ 0 → calls_of c (log y) ≡ calls_of c (log k.now))
+      → name y ≡ name k.now → IsPrefix (log k.now) (log y) → ((c : ℕ) → times c (callers v) ≡ 0 → calls_by c (log y) ≡ calls_by c (log k.now))
       → ((c : ℕ) → times c (callers v) ≡ 0 → opened y c ≡ opened k.now c)
       → Rule record { words = set s.words 1 (length (log y)); homes = s.homes; views = set s.views id (published name log opened v k.now y) }
   out_kept s k id v y at has some same pre calls opens =
@@ -243,11 +244,11 @@ module _ {T : Type 0} (name : T → List ℕ) (log : T → List Entry) (opened :
 
   -- the length of the list of the value that lies in the slot is stored
   pub publishes : (slots id : ℕ) (me : M) (x y : T) (n : ℕ) → me.0.hold ≡ Some x → me.1 ≡ (0, Some y) ∷ [] → 0 < length me.0.own → n ≡ length (log y)
-      → name y ≡ name x → IsPrefix (log x) (log y) → ((c : ℕ) → times c (callers me.0) ≡ 0 → calls_of c (log y) ≡ calls_of c (log x)) → ((c : ℕ) → times c (callers me.0) ≡ 0 → opened y c ≡ opened x c)
+      → name y ≡ name x → IsPrefix (log x) (log y) → ((c : ℕ) → times c (callers me.0) ≡ 0 → calls_by c (log y) ≡ calls_by c (log x)) → ((c : ℕ) → times c (callers me.0) ≡ 0 → opened y c ≡ opened x c)
       → Allows Rule slots id me 1 (λ _. n) (λ _. put_out name log opened me)
   publishes slots id me x y n has bare some is same pre calls opens s k _ at _ =
       let now = now_is s k id me.0 x at has in
-      let kept = subst (λ (z : T). me.0.hold ≡ Some z → name y ≡ name z → IsPrefix (log z) (log y) → ((c : ℕ) → times c (callers me.0) ≡ 0 → calls_of c (log y) ≡ calls_of c (log z))
+      let kept = subst (λ (z : T). me.0.hold ≡ Some z → name y ≡ name z → IsPrefix (log z) (log y) → ((c : ℕ) → times c (callers me.0) ≡ 0 → calls_by c (log y) ≡ calls_by c (log z))
       → ((c : ℕ) → times c (callers me.0) ≡ 0 → opened y c ≡ opened z c)
       → Rule record { words = set s.words 1 (length (log y)); homes = s.homes; views = set s.views id (published name log opened me.0 z y) })
       (sym now) (λ h a b c d. out_kept s k id me.0 y at h some a b c d) has same pre calls opens in (

@@ -3,3 +3,4 @@ pub mod Numbering
 pub mod Prefixes
 pub mod Sitting
 pub mod Totals
+pub mod Following

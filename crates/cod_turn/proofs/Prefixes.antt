@@ -1,8 +1,9 @@
 -- Beginnings of one list, and the calls of a caller in them.
-use Rattle.std.proofs.Common.{◌≡◌, ℕ, ◌≤◌, List, [], ◌∷◌, ◌++◌, length, Bool, true, false, cond, refl, ap, sym, ◌∙◌, arith, append_assoc, length-append}
+use Rattle.std.proofs.Common.{◌≡◌, ℕ, ◌≤◌, List, [], ◌∷◌, ◌++◌, length, refl, ap, sym, ◌∙◌, arith, append_assoc, length-append}
 use mathlib.Core.List.{IsPrefix}
 use Rattle.cod_chronicle.specs.declared.entry.Entry.{Entry}
-use Rattle.cod_turn.specs.Turning.{calls_of, is_by}
+use Rattle.std.proofs.lemmas.List.Elements.{filter-append}
+use Rattle.cod_chronicle.specs.Said.{calls_by, is_call_by}
 
 module _ {A : Type 0} where
   pub prefix_self : (xs : List A) → IsPrefix xs xs
@@ -33,14 +34,8 @@ module _ {A : Type 0} where
   pub prefix_length : (xs ys : List A) → IsPrefix xs ys → length xs ≤ length ys
   prefix_length xs ys p = omega (arith, sym (ap length p.1) ∙ length-append xs p.0)
 
-pub calls_of-append : (c : ℕ) (xs ys : List Entry) → calls_of c (xs ++ ys) ≡ calls_of c xs ++ calls_of c ys
-calls_of-append c [] ys = refl
-calls_of-append c (x ∷ xs) ys = by_case (is_by c x) (calls_of-append c xs ys)
-  where
-    by_case : (b : Bool) → calls_of c (xs ++ ys) ≡ calls_of c xs ++ calls_of c ys → cond b (x ∷ calls_of c (xs ++ ys)) (calls_of c (xs ++ ys)) ≡ cond b (x ∷ calls_of c xs)
-        (calls_of c xs) ++ calls_of c ys
-    by_case true e = ap (λ zs. x ∷ zs) e
-    by_case false e = e
+pub calls_by-append : (c : ℕ) (xs ys : List Entry) → calls_by c (xs ++ ys) ≡ calls_by c xs ++ calls_by c ys
+calls_by-append c xs ys = filter-append (is_call_by c) xs ys
 
-pub calls_prefix : (c : ℕ) (xs ys : List Entry) → IsPrefix xs ys → IsPrefix (calls_of c xs) (calls_of c ys)
-calls_prefix c xs ys p = (calls_of c p.0, sym (calls_of-append c xs p.0) ∙ ap (calls_of c) p.1)
+pub calls_prefix : (c : ℕ) (xs ys : List Entry) → IsPrefix xs ys → IsPrefix (calls_by c xs) (calls_by c ys)
+calls_prefix c xs ys p = (calls_by c p.0, sym (calls_by-append c xs p.0) ∙ ap (calls_by c) p.1)

@@ -1,26 +1,15 @@
 -- What a seat of a turn knows, the rule of the turn, and what its steps do.
-use Rattle.std.specs.Prelude.{◌≡◌, ℕ, ◌-◌, ◌<◌, ◌≤◌, eqb, List, [], ◌∷◌, ◌++◌, length, Option, Some, None, Bool}
-use Rattle.std.specs.Prelude.{false, cond}
+use Rattle.std.specs.Prelude.{◌≡◌, ℕ, ◌-◌, ◌<◌, ◌≤◌, List, [], ◌∷◌, ◌++◌, length, Option, Some, None}
 use mathlib.Core.Option as maybe
 use mathlib.Core.List.{IsPrefix}
 use lib.ListN.{get_elem?}
 use Rattle.atomic_table.specs.Table.{State, Me, Step}
 use Rattle.cod_chronicle.specs.declared.entry.Entry.{Entry}
-use Rattle.cod_chronicle.specs.declared.entry.Entry.TheVariants.{Call}
-use Rattle.cod_chronicle.specs.Standing.{OpenCalls}
+use Rattle.cod_chronicle.specs.Said.{calls_by}
+use Rattle.cod_chronicle.specs.Standing.{EventRelation, Follows, OpenCalls}
 use Rattle.cod_seats.specs.Totals.{times, total, once_below, range}
 use Rattle.cod_seats.specs.Least.{least_of, all_but_least}
 use Rattle.cod_turn.specs.declared.view.View.{View}
-
--- a call entry of this caller
-abbrev pub is_by : ℕ → Entry → Bool
-is_by c (Call caller number stamp call reply) = eqb caller.0 c
-is_by c _ = false
-
--- the call entries of a caller, in order
-abbrev pub calls_of : ℕ → List Entry → List Entry
-calls_of c [] = []
-calls_of c (e ∷ es) = cond (is_by c e) (e ∷ calls_of c es) (calls_of c es)
 
 module _ {T : Type 0} where
   -- each caller, with the value x
@@ -67,7 +56,7 @@ module _ {T : Type 0} (name : T → List ℕ) (log : T → List Entry) (opened :
   -- the list now begins with that of the value beside each of these callers, and the caller has the same calls in it, and the same call open
   abbrev pub Stays : T → List (ℕ × T) → Type 0
   Stays now [] = Unit {0}
-  Stays now (p ∷ ps) = IsPrefix (log p.1) (log now) × (calls_of p.0 (log now) ≡ calls_of p.0 (log p.1)) × (opened now p.0 ≡ opened p.1 p.0) × Stays now ps
+  Stays now (p ∷ ps) = IsPrefix (log p.1) (log now) × (calls_by p.0 (log now) ≡ calls_by p.0 (log p.1)) × (opened now p.0 ≡ opened p.1 p.0) × Stays now ps
 
   -- what a seat knows of the value
   pub record Fits (now : T) (v : View T) : Type 0 where
@@ -129,14 +118,10 @@ module _ {T : Type 0} (name : T → List ℕ) (log : T → List Entry) (opened :
   abbrev pub let_go : Me (Option T) (View T) → Me (Option T) (View T) → Type 0
   let_go m m' = m' ≡ (held_by m.0 None, [])
 
-module _ {T : Type 0} (name : T → List ℕ) (log : T → List Entry) (gauge : T → List ℕ) (opened : T → OpenCalls)
-    (event : ℕ → List Entry → List ℕ → OpenCalls → List Entry → List ℕ → OpenCalls → Type 0) where
-  -- The value y differs from x by one event of a caller among these
-  pub record Follows (cs : List ℕ) (x y : T) : Type 0 where
-    pub same_name : name y ≡ name x
-    pub begins : IsPrefix (log x) (log y)
-    pub others_entries : (c : ℕ) → times c cs ≡ 0 → calls_of c (log y) ≡ calls_of c (log x)
-    pub others_open : (c : ℕ) → times c cs ≡ 0 → opened y c ≡ opened x c
+-- Values that stand for a chronicle, as `Stands` has them
+module _ {T : Type 0} (name : T → List ℕ) (log : T → List Entry) (gauge : T → List ℕ) (opened : T → OpenCalls) (event : EventRelation) where
+  -- The value y follows x by one event of a caller among these
+  pub record FollowsByOne (cs : List ℕ) (x y : T) : Type 0 where
     pub by : ℕ
     pub mine : 0 < times by cs
-    pub happens : event by (log x) (gauge x) (opened x) (log y) (gauge y) (opened y)
+    pub step : Follows name log gauge opened event by x y

@@ -1,6 +1,6 @@
 //! One value that seats take in turns.
 ghost use Rattle.std.specs.Prelude.{◌≡◌, ℕ, ◌<◌, ◌≤◌, List, [], ◌∷◌, length, Some, None, IfOk, IfSome, IfNone};
-ghost use Rattle.cod_turn.specs.Turning.{Meets, Follows, AreWithin, callers, given, starting, held_by, left_of, right_of, both_of};
+ghost use Rattle.cod_turn.specs.Turning.{Meets, FollowsByOne, AreWithin, callers, given, starting, held_by, left_of, right_of, both_of};
 ghost use Rattle.cod_turn.specs.Seats.{Seated, IsIdle};
 ghost use Rattle.cod_seats.specs.Totals.{times, once_below};
 ghost use Rattle.cod_seats.specs.Least.{IsLeast};
@@ -119,7 +119,7 @@ impl<T: Stands> Turn<T> {
     /// what was added are its own. It doesn't wait.
     pub fn give(&self, seat: &mut TurnSeat<T>, value: T)
         requires turn { seat.old.of ≡ self.now }
-        requires follows { (x : _) × (seat.old.knows.hold ≡ Some x) × Follows T.name T.entries T.gauge T.open_calls T.event (callers seat.old.knows) x value }
+        requires follows { (x : _) × (seat.old.knows.hold ≡ Some x) × FollowsByOne T.name T.entries T.gauge T.open_calls T.event (callers seat.old.knows) x value }
         ensures turn { seat.new.of ≡ seat.old.of }
         ensures idle { IsIdle seat.new }
         ensures seat { (x : _) → seat.old.knows.hold ≡ Some x → seat.new.knows ≡ given T.name T.entries T.open_calls seat.old.knows x value }

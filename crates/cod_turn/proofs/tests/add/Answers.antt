@@ -2,8 +2,8 @@ use Rattle.std.proofs.Common.{◌≡◌, ℕ, ◌+◌, List, [], ◌∷◌, Some
 use Rattle.cod_chronicle.specs.declared.entry.Entry.{Entry}
 use Rattle.cod_turn.specs.declared.view.View.{View}
 use Rattle.cod_turn.specs.Seats.{Seated}
-use Rattle.cod_turn.specs.Turning.{Follows, callers}
-use Rattle.cod_turn.proofs.Numbering.{Below, no_name, whole, nothing_open, Happens, taken_below, all_weaker, below_more, follows_same, follows_more, not_by, numbered_then, caller_of}
+use Rattle.cod_turn.specs.Turning.{FollowsByOne, callers}
+use Rattle.cod_turn.proofs.Numbering.{Below, no_name, whole, nothing_open, Happens, taken_below, all_weaker, below_more, follows_same, follows_more, numbered_then, caller_of}
 use Rattle.std.proofs.lemmas.Bool.{eq-eqb}
 use Rattle.cod_turn.proofs.tests.add.Goals as goal
 use Rattle.cod_turn.proofs.tests.add.Goals.{then-room, else-room}
@@ -16,12 +16,12 @@ give-requires-clause-follows g c =
     let t = ap (λ (s : Seated (List Entry)). s.knows) c.take-chronicle.ensures.seat in
     let x : List Entry = c.take-chronicle.result in
     let mine = ap callers t ∙ caller_of c.args.caller c.args.number c.args.seat.now.knows c.requires.numbered in
-    let step : List Entry → Type 0 = λ y. Follows no_name whole no_name nothing_open Happens (c.args.caller ∷ []) x y in (
+    let step : List Entry → Type 0 = λ y. FollowsByOne no_name whole no_name nothing_open Happens (c.args.caller ∷ []) x y in (
       x,
       ap (λ (v : View (List Entry)). v.hold) t,
-      subst (λ (cs : List ℕ). Follows no_name whole no_name nothing_open Happens cs x c.if-room.chronicle) (sym mine)
+      subst (λ (cs : List ℕ). FollowsByOne no_name whole no_name nothing_open Happens cs x c.if-room.chronicle) (sym mine)
           (elim c.if-room.branch [
-            | then-room w ↦ subst step (sym (w.chronicle-is ∙ w.push_link.ensures)) (follows_more c.args.caller x _ (λ d off. not_by c.args.caller d off))
+            | then-room w ↦ subst step (sym (w.chronicle-is ∙ w.push_link.ensures)) (follows_more c.args.caller x _ refl)
             | else-room w ↦ subst step (sym w.chronicle-is) (follows_same c.args.caller x)
           ]),
     )

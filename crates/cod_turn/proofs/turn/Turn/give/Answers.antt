@@ -1,8 +1,9 @@
 use Rattle.std.proofs.Common.{Some, None, ◌∷◌, [], sym, ap, ◌∙◌, subst, ℕ, ◌≡◌, refl, length, Option, List, arith}
 use Rattle.atomic_table.specs.Table.{rest, Me, Allows}
 use Rattle.cod_turn.specs.declared.view.View.{View}
-use Rattle.cod_turn.specs.Turning.{Kept, put_out, held_by, published, given, Follows, callers}
+use Rattle.cod_turn.specs.Turning.{Kept, put_out, held_by, published, given, FollowsByOne, callers}
 use Rattle.cod_turn.specs.Seats.{Seated}
+use Rattle.cod_turn.proofs.Following.{begins, others_calls, others_open}
 use Rattle.cod_turn.proofs.Keeps.{publishes, lets_go, still_some}
 use Rattle.cod_turn.proofs.Sitting.{board, in_hand, still_sits}
 use Rattle.cod_turn.proofs.turn.Turn.give.Goals as goal
@@ -20,7 +21,7 @@ store-requires g c =
     let q = c.requires.follows in
     let v : View g.row.T.Denot = s.me.0 in
     let has : v.hold ≡ Some q.0 = ap (λ (w : Seated g.row.T.Denot). w.knows.hold) c.seat.view_is ∙ q.1 in
-    let follows = subst (λ (w : Seated g.row.T.Denot). Follows g.T.Stands.name g.T.Stands.entries g.T.Stands.gauge g.T.Stands.open_calls g.T.Stands.event (callers w.knows) q.0 c.args.value)
+    let follows = subst (λ (w : Seated g.row.T.Denot). FollowsByOne g.T.Stands.name g.T.Stands.entries g.T.Stands.gauge g.T.Stands.open_calls g.T.Stands.event (callers w.knows) q.0 c.args.value)
     (sym c.seat.view_is) q.2 in
     let e = c.exchange.ensures.3 ∙ ap (λ (l : List (ℕ × Option g.row.T.Denot)). (v, (0, Some c.args.value) ∷ rest l)) (in_hand s q.0 c.seat.invariant has) in
     let two = c.self.invariant.0 in (
@@ -31,7 +32,10 @@ store-requires g c =
           (λ _. put_out g.T.Stands.name g.T.Stands.entries g.T.Stands.open_calls m))
           (sym e)
           (publishes g.T.Stands.name g.T.Stands.entries g.T.Stands.open_calls _ _ (v, (0, Some c.args.value) ∷ []) q.0 c.args.value _ has refl c.seat.invariant.1
-          (c.len-count.ensures ∙ ap length c.chronicle.ensures) follows.same_name follows.begins follows.others_entries follows.others_open),
+          (c.len-count.ensures ∙ ap length c.chronicle.ensures) follows.step.name_stays
+          (begins g.T.Stands.name g.T.Stands.entries g.T.Stands.gauge g.T.Stands.open_calls g.T.Stands.event (callers v) q.0 c.args.value follows)
+          (others_calls g.T.Stands.name g.T.Stands.entries g.T.Stands.gauge g.T.Stands.open_calls g.T.Stands.event (callers v) q.0 c.args.value follows)
+          (others_open g.T.Stands.name g.T.Stands.entries g.T.Stands.gauge g.T.Stands.open_calls g.T.Stands.event (callers v) q.0 c.args.value follows)),
     )
 
 pub store-requires-2 : goal.store-requires-2
