@@ -1,0 +1,3 @@
+mod Counting
+pub mod Choosing
+pub mod Waiting

@@ -1,0 +1,6 @@
+use Rattle.std.proofs.Common.{◌≡◌, ◌<◌, ℕ, false}
+use Rattle.cod_step.specs.Next.{is_data_due}
+use Rattle.cod_step.proofs.updating.data_due.Given as goal
+
+abbrev pub invariant-loop-j : goal.invariant-loop-j
+invariant-loop-j l = (m : ℕ) → m < l.j → is_data_due l.scene.live l.scene.claims.now l.caller.0 m ≡ false

@@ -1,0 +1,84 @@
+//! What a next step is chosen by, beside the call.
+ghost use Rattle.std.specs.Prelude.{◌≡◌, ◌<◌, ◌≤◌, not, if◌then◌else◌};
+ghost use Rattle.cod_step.specs.Live.{column_on, count_down, is_live, is_lost, is_node, node_at};
+
+use cod_claims::Claims;
+use cod_types::{Caller, Geometry, NodeId};
+
+/// A rebuild in progress: whose call it is, and how many bytes of its target are there, if it has one.
+#[derive(Clone, Copy, Debug, PartialEq, Eq)]
+pub struct Job {
+    pub caller: Caller,
+    pub number: u32,
+    pub done: Option<u32>,
+}
+
+/// A segment as a next step sees it: the node of each live column, the claims, and the rebuild in progress.
+#[derive(Drop)]
+pub struct Scene<'a> {
+    pub shape: Geometry,
+    /// None for a column that is down, and for those that there aren't.
+    pub live: [Option<NodeId>; 16],
+    pub claims: &'a Claims,
+    pub job: Option<Job>,
+}
+
+impl<'a> Scene<'a> {
+    /// Whether a column is live.
+    pub(crate) fn is_live(&self, col: u8) -> bool
+        requires { col < 16 }
+        ensures { result ≡ is_live self.now.live col }
+    {
+        self.live[col as usize].is_some()
+    }
+}
+
+/// 1 where the column is down, else 0.
+fn down_at(live: &[Option<NodeId>; 16], i: u8) -> u8
+    requires { i < 16 }
+    ensures { result ≡ (if not (is_live live.now i) then 1 else 0) }
+{
+    if live[i as usize].is_some() { 0 } else { 1 }
+}
+
+/// How many of the first n columns are down.
+pub fn count_down(live: &[Option<NodeId>; 16], n: u8) -> u8
+    requires { n ≤ 16 }
+    ensures { result ≡ count_down live.now n }
+{
+    let mut count = 0;
+    for i in 0..n {
+        count += down_at(live, i);
+    }
+    count
+}
+
+/// Whether more columns are down than the parity columns can stand for.
+pub fn is_lost(g: &Geometry, live: &[Option<NodeId>; 16]) -> bool
+    ensures { result ≡ is_lost g.now live.now }
+{
+    g.n() - g.k() < count_down(live, g.n())
+}
+
+/// Whether a column is on the node.
+fn is_on(live: &[Option<NodeId>; 16], i: u8, node: NodeId) -> bool
+    requires { i < 16 }
+    ensures { result ≡ is_node node.0 (node_at live.now i) }
+{
+    match live[i as usize] {
+        Some(on) => on.0 == node.0,
+        None => false,
+    }
+}
+
+/// The lowest live column on a node, if there is one.
+pub fn column_on(live: &[Option<NodeId>; 16], node: NodeId) -> Option<u8>
+    ensures { result ≡ column_on live.now node.0 }
+{
+    for i in 0..16u8 {
+        if is_on(live, i, node) {
+            return Some(i);
+        }
+    }
+    None
+}

@@ -1,0 +1,13 @@
+pub mod Lists
+pub mod Opening
+pub mod Entering
+pub mod Numbering
+pub mod Kept
+pub mod Running
+pub mod Rounding
+pub mod Counting
+pub mod Losing
+pub mod Closing
+pub mod Progressing
+pub mod Example
+pub mod Textual

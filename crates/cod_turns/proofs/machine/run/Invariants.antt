@@ -1,0 +1,14 @@
+use Rattle.std.proofs.Common.{◌≡◌}
+use Rattle.cod_turns.specs.Rounds.{measure}
+use Rattle.cod_turns.proofs.Rounding.{RunSoFar}
+use Rattle.cod_turns.proofs.machine.run.Given as goal
+
+abbrev pub invariant-rounds : goal.invariant-rounds
+invariant-rounds g l = record {
+  run : RunSoFar (g.M.Machine.course l.fn.m) (g.M.Machine.world l.fn.m) (g.M.Machine.world l.m);
+  course : g.M.Machine.course l.m ≡ g.M.Machine.course l.fn.m;
+  most : g.M.Machine.most l.m ≡ g.M.Machine.most l.fn.m;
+}
+
+abbrev pub decreases-rounds : goal.decreases-rounds
+decreases-rounds g l = measure (g.M.Machine.course l.fn.m).script (g.M.Machine.most l.fn.m) (g.M.Machine.world l.m) (g.M.Machine.work l.m)
