@@ -1,0 +1,11 @@
+pub mod Seg
+pub mod Sound
+pub mod Start
+pub mod Pools
+pub mod Steps
+pub mod Next
+pub mod Choices
+pub mod Happens
+pub mod Calls
+pub mod Runs
+pub mod Laws
