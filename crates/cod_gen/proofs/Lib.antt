@@ -1,0 +1,5 @@
+pub mod Lining
+pub mod Naming
+pub mod Rounds_drawn
+pub mod Clients
+pub mod Sound
