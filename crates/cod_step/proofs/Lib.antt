@@ -1,3 +1,2 @@
 mod Counting
-pub mod Choosing
-pub mod Waiting
+mod Showing

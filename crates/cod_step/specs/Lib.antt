@@ -1,3 +1,3 @@
 pub mod Live
 pub mod Next
-pub mod Laws
+pub mod Scenes

@@ -23,6 +23,6 @@ abbrev pub is_node : ℕ → Option NodeId → Bool
 is_node node None = false
 is_node node (Some x) = x.0 == node
 
--- the lowest live column on a node
-abbrev pub column_on : List (Option NodeId) → (node : ℕ) → Option ℕ
-column_on live node = find (λ i. is_node node (node_at live i)) (range_with_len 0 16)
+-- the lowest of the first n columns that is live and on the node
+abbrev pub column_on : (n : ℕ) → List (Option NodeId) → (node : ℕ) → Option ℕ
+column_on n live node = find (λ i. is_node node (node_at live i)) (range_with_len 0 n)

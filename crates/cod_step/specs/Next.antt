@@ -10,8 +10,8 @@ use Rattle.cod_layout.specs.Parts.{length_in}
 use Rattle.cod_claims.specs.declared.claim.Claim.{Claim}
 use Rattle.cod_claims.specs.declared.claims.Held.{Held}
 use Rattle.cod_claims.specs.Claimed.{claim_at, holder, is_applied, is_noted, is_of, is_others}
-use Rattle.cod_step.specs.declared.next.Step.{Step}
-use Rattle.cod_step.specs.declared.next.Step.TheVariants as step
+use Rattle.cod_seg.specs.declared.next.Step.{Step}
+use Rattle.cod_seg.specs.declared.next.Step.TheVariants as step
 use Rattle.cod_step.specs.declared.scene.Job.{Job}
 use Rattle.cod_step.specs.Live.{column_on, count_down, is_live, is_lost}
 
@@ -100,9 +100,9 @@ rebuild_step g live job caller =
     if count_down live g.n == 0 then step.Whole
     else unless_held (rebuild_of_other caller job) (own_rebuild_step g.block job)
 
-abbrev pub drain_step : List (Option NodeId) → Option Job → (caller node : ℕ) → Step
-drain_step live job caller node =
-    if is_some (column_on live node) then unless_held (rebuild_of_other caller job) step.Drain else step.Clear
+abbrev pub drain_step : (n : ℕ) → List (Option NodeId) → Option Job → (caller node : ℕ) → Step
+drain_step n live job caller node =
+    if is_some (column_on n live node) then unless_held (rebuild_of_other caller job) step.Drain else step.Clear
 
 -- the next step of a call that isn't refused, where not too many columns are down
 abbrev pub call_step : Shape → List (Option NodeId) → List (Option Claim) → Option Job → (caller : ℕ) → Call → Step
@@ -114,7 +114,7 @@ call_step g live claims job caller (call.Put bytes) = unless_held (holder_among 
 call_step g live claims job caller (call.Write off bytes) = write_step g live claims caller off (length bytes)
 call_step g live claims job caller (call.Swap off old new) = write_step g live claims caller off (length new)
 call_step g live claims job caller call.Rebuild = rebuild_step g live job caller
-call_step g live claims job caller (call.Drain node) = drain_step live job caller node.0
+call_step g live claims job caller (call.Drain node) = drain_step g.n live job caller node.0
 
 -- What the next event of a caller's call does: a call that its own numbers refuse is refused, one that finds too many columns down
 -- is lost, and else it depends on the call.

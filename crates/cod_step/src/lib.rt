@@ -1,10 +1,10 @@
 //! What the next event of a call does.
 #![tactic(auto)]
 
-pub mod laws;
 mod next;
 mod scene;
 mod updating;
 
-pub use next::{Step, next_step};
-pub use scene::{Job, Scene, column_on, count_down, is_lost};
+pub use cod_seg::Step;
+pub use next::next_step;
+pub use scene::{Job, Scene, column_on, is_lost};

@@ -2,59 +2,36 @@
 
 ghost use Rattle.std.specs.Prelude.{◌≡◌, ◌+◌, ◌<◌, ◌≤◌, ℕ, true, length};
 ghost use Rattle.cod_types.specs.Limits.{segment_length};
+ghost use Rattle.cod_seg.specs.Next as seg;
+ghost use Rattle.cod_seg.specs.Seg.{Seg};
+ghost use Rattle.cod_seg.specs.Sound.{Sound};
+ghost use Rattle.cod_step.specs.Scenes.{Shows};
 ghost use Rattle.cod_step.specs.Next.{drain_step, holder_among, next_step, own_rebuild_step, rebuild_of_other, rebuild_step, unless_held, write_step};
 
-use crate::scene::{Job, Scene, column_on, count_down, is_lost};
+use crate::scene::{Job, Scene, count_down, first_on, too_many_down};
 use crate::updating::{has_claim, next_update, wanted};
 use cod_claims::Held;
+use cod_seg::Step;
 use cod_types::{Call, Caller, NodeId, refusal};
-
-/// What the next event of a call does.
-#[derive(Clone, Copy, Debug, PartialEq, Eq)]
-pub enum Step {
-    /// It is refused by its own numbers.
-    Refuse,
-    /// More columns are down than the parity columns can stand for.
-    Lost,
-    /// A rebuild finds no column down.
-    Whole,
-    /// A drain finds no live column on the node.
-    Clear,
-    /// It waits for this call of another caller.
-    Held(Held),
-    Read,
-    Put,
-    Merge,
-    Tick,
-    Upgrade,
-    /// An update claims its blocks.
-    Begin,
-    /// An update's part goes to the data column of this block.
-    Data(u8),
-    /// An update's part of this block goes to this parity column.
-    Parity(u8, u8),
-    /// An update is everywhere, and becomes part of the segment.
-    Commit,
-    /// A rebuild looks for a spare node.
-    RebuildStart,
-    /// A rebuild brings the next bytes to its target.
-    RebuildPiece,
-    /// A rebuild's target is whole, and its column comes up there.
-    RebuildEnd,
-    Drain,
-}
 
 /// All blocks.
 const ALL: u16 = u16::MAX;
 
-/// The next step of a caller's call.
+/// The next step of a caller's call: that of each segment which the scene shows.
 pub fn next_step(scene: &Scene<'_>, call: &Call, caller: Caller) -> Step
+    ensures { (s : Seg) → Sound s → Shows scene.now.shape scene.now.live scene.now.claims.now scene.now.job s → result ≡ seg.next_step s caller.0 call.now }
+{
+    choose(scene, call, caller)
+}
+
+/// The same by the rules over the scene alone.
+fn choose(scene: &Scene<'_>, call: &Call, caller: Caller) -> Step
     ensures { result ≡ next_step scene.now.shape scene.now.live scene.now.claims.now scene.now.job caller.0 call.now }
 {
     if refusal(&scene.shape, call).is_some() {
         return Step::Refuse;
     }
-    if is_lost(&scene.shape, &scene.live) {
+    if too_many_down(&scene.shape, &scene.live) {
         return Step::Lost;
     }
     match call {
@@ -143,9 +120,10 @@ fn own_rebuild_step(job: &Option<Job>, block: u32) -> Step
 
 /// The next step of a drain.
 fn drain_step(scene: &Scene<'_>, node: NodeId, caller: Caller) -> Step
-    ensures { result ≡ drain_step scene.now.live scene.now.job caller.0 node.0 }
+    ensures { result ≡ drain_step scene.now.shape.n scene.now.live scene.now.job caller.0 node.0 }
 {
-    if column_on(&scene.live, node).is_none() {
+    let _columns = scene.shape.k(); // the limits of a geometry are told here
+    if first_on(&scene.live, scene.shape.n(), node).is_none() {
         return Step::Clear;
     }
     unless_held(rebuild_of_other(&scene.job, caller), Step::Drain)

@@ -1,5 +1,11 @@
 //! What a next step is chosen by, beside the call.
 ghost use Rattle.std.specs.Prelude.{◌≡◌, ◌<◌, ◌≤◌, not, if◌then◌else◌};
+ghost use Rattle.std.specs.Prelude.{ℕ};
+ghost use Rattle.cod_chronicle.specs.Said.{is_over};
+ghost use Rattle.cod_seg.specs.Next.{live_on};
+ghost use Rattle.cod_seg.specs.Seg.{Seg};
+ghost use Rattle.cod_seg.specs.Sound.{Sound};
+ghost use Rattle.cod_step.specs.Scenes.{AreLive};
 ghost use Rattle.cod_step.specs.Live.{column_on, count_down, is_live, is_lost, is_node, node_at};
 
 use cod_claims::Claims;
@@ -42,7 +48,7 @@ fn down_at(live: &[Option<NodeId>; 16], i: u8) -> u8
 }
 
 /// How many of the first n columns are down.
-pub fn count_down(live: &[Option<NodeId>; 16], n: u8) -> u8
+pub(crate) fn count_down(live: &[Option<NodeId>; 16], n: u8) -> u8
     requires { n ≤ 16 }
     ensures { result ≡ count_down live.now n }
 {
@@ -54,10 +60,17 @@ pub fn count_down(live: &[Option<NodeId>; 16], n: u8) -> u8
 }
 
 /// Whether more columns are down than the parity columns can stand for.
-pub fn is_lost(g: &Geometry, live: &[Option<NodeId>; 16]) -> bool
+pub(crate) fn too_many_down(g: &Geometry, live: &[Option<NodeId>; 16]) -> bool
     ensures { result ≡ is_lost g.now live.now }
 {
     g.n() - g.k() < count_down(live, g.n())
+}
+
+/// Whether more columns of a segment are down than the parity columns can stand for, where these are its live ones.
+pub fn is_lost(g: &Geometry, live: &[Option<NodeId>; 16]) -> bool
+    ensures { (s : Seg) → Sound s → g.now ≡ s.site.shape → AreLive live.now s.cols → result ≡ is_over s.site s.log }
+{
+    too_many_down(g, live)
 }
 
 /// Whether a column is on the node.
@@ -71,14 +84,23 @@ fn is_on(live: &[Option<NodeId>; 16], i: u8, node: NodeId) -> bool
     }
 }
 
-/// The lowest live column on a node, if there is one.
-pub fn column_on(live: &[Option<NodeId>; 16], node: NodeId) -> Option<u8>
-    ensures { result ≡ column_on live.now node.0 }
+/// The lowest of the first n columns that is live and on the node, if one is.
+pub(crate) fn first_on(live: &[Option<NodeId>; 16], n: u8, node: NodeId) -> Option<u8>
+    requires { n ≤ 16 }
+    ensures { result ≡ column_on n live.now node.0 }
 {
-    for i in 0..16u8 {
+    for i in 0..n {
         if is_on(live, i, node) {
             return Some(i);
         }
     }
     None
+}
+
+/// The live column of a segment on a node, if there is one, where these are its live columns.
+pub fn column_on(g: &Geometry, live: &[Option<NodeId>; 16], node: NodeId) -> Option<u8>
+    ensures { (s : Seg) → Sound s → g.now ≡ s.site.shape → AreLive live.now s.cols → result ≡ live_on s.site s.log node.0 }
+{
+    let _columns = g.k(); // the limits of a geometry are told here
+    first_on(live, g.n(), node)
 }

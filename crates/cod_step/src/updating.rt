@@ -5,9 +5,9 @@ ghost use Rattle.cod_layout.specs.Parts.{length_in};
 ghost use Rattle.cod_claims.specs.Claimed.{is_wanted};
 ghost use Rattle.cod_step.specs.Next.{bare_of, data_due, has_claim, is_bare, is_data_due, is_parity_due, next_update, parity_due, touches};
 
-use crate::next::Step;
 use crate::scene::Scene;
 use cod_claims::Claims;
+use cod_seg::Step;
 use cod_types::{Caller, Geometry};
 
 /// Whether a range has bytes of block j.

@@ -1,12 +1,11 @@
-use Rattle.std.proofs.Common.{◌∙◌, ℕ, sym, arith}
-use Rattle.cod_claims.proofs.Finding.{found_first, found_none}
-use Rattle.cod_step.specs.Live.{is_node, node_at}
+use Rattle.std.proofs.Common.{◌∙◌, ℕ, ap}
+use Rattle.cod_types.specs.Limits.{Shape}
+use Rattle.cod_step.specs.Live.{column_on}
+use Rattle.cod_step.proofs.Showing.{found_is}
 use Rattle.cod_step.proofs.scene.column_on.Goals as goal
 
-pub returns-then-is_on : goal.returns-then-is_on
-returns-then-is_on c =
-    sym (found_first (λ (i : ℕ). is_node c.args.node.0 (node_at c.args.live.now i)) 0 16 c.loop-i.i (omega arith) (omega arith)
-    (λ m low lt. c.loop-i.invariant m lt) (sym c.is_on.ensures ∙ c.if-is_on.true))
-
 pub returns : goal.returns
-returns c = sym (found_none (λ (i : ℕ). is_node c.args.node.0 (node_at c.args.live.now i)) 0 16 (λ m low lt. c.loop-i.invariant m (omega arith)))
+returns c = λ s sound shape live.
+    c.first_on.ensures
+    ∙ ap (λ (n : ℕ). column_on n c.args.live.now c.args.node.0) (c.n.ensures ∙ ap (λ (g : Shape). g.n) shape)
+    ∙ found_is s c.args.live.now c.args.node.0 sound live
