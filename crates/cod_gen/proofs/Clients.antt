@@ -2,11 +2,11 @@
 use Rattle.std.proofs.Common.{◌≡◌, ℕ, zero, suc, ◌+◌, ◌*◌, ◌≤◌, List, [], ◌∷◌, ◌++◌, length, map, refl, sym, ap, ◌∙◌, arith}
 use Rattle.std.specs.List.{range_with_len}
 use Rattle.cod_script.specs.Script.{Client, Body}
-use Rattle.cod_script.proofs.RoomSums.{sum_more}
+use Rattle.cod_script.proofs.RoomSums.{range_more, sum_more}
 use Rattle.cod_gen.specs.Drawn.{after}
 use Rattle.cod_gen.specs.Drafting.{Draft, with_lines, with_state, with_client}
 use Rattle.cod_gen.specs.Generated.{draws_ahead, client_lines, line_ahead, name_of, client_of, all_segments, all_clients}
-use Rattle.cod_gen.proofs.Lining.{lines_are, range_next}
+use Rattle.cod_gen.proofs.Lining.{lines_are}
 use Rattle.cod_gen.proofs.Rounds_drawn.{client_length}
 
 -- the segments, and so many clients
@@ -21,7 +21,7 @@ map-push f [] y = refl
 map-push f (x ∷ xs) y = ap (λ l. f x ∷ l) (map-push f xs y)
 
 clients_next : (number n : ℕ) → map (client_of number) (range_with_len 0 (n + 1)) ≡ map (client_of number) (range_with_len 0 n) ++ client_of number n ∷ []
-clients_next number n = ap (map (client_of number)) (range_next n) ∙ map-push (client_of number) (range_with_len 0 n) n
+clients_next number n = ap (map (client_of number)) (range_more n) ∙ map-push (client_of number) (range_with_len 0 n) n
 
 pub line_next : (number n : ℕ) → line_ahead number (n + 1) ≡ line_ahead number n + 1 + length (client_lines number n)
 line_next number n = let e = sum_more (λ c. length (client_lines number c) + 1) n in omega (arith, e)
@@ -69,7 +69,7 @@ clients_end number c d e is = ap (λ (k : Draft). k.body) is ∙ ap (body_with n
 -- ---- the segments
 
 pub segments_next : (n : ℕ) → map (name_of 115) (range_with_len 0 (n + 1)) ≡ map (name_of 115) (range_with_len 0 n) ++ name_of 115 n ∷ []
-segments_next n = ap (map (name_of 115)) (range_next n) ∙ map-push (name_of 115) (range_with_len 0 n) n
+segments_next n = ap (map (name_of 115)) (range_more n) ∙ map-push (name_of 115) (range_with_len 0 n) n
 
 pub segments_end : (n : ℕ) → n ≡ 40 → map (name_of 115) (range_with_len 0 n) ≡ all_segments
 unfolding all_segments

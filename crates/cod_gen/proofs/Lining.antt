@@ -1,6 +1,6 @@
 -- Lines that are added, and numbers that are drawn, one after another.
 use Rattle.std.proofs.Common.{◌≡◌, ℕ, zero, suc, ◌+◌, List, [], ◌∷◌, ◌++◌, length, refl, sym, ap, ◌∙◌, arith}
-use Rattle.std.specs.List.{flat_map, range_with_len}
+use Rattle.std.specs.List.{flat_map}
 use Rattle.std.proofs.lemmas.List.{append-nil, append_assoc}
 use Rattle.cod_script.specs.declared.line.Line.{Line}
 use Rattle.cod_script.specs.declared.line.What.{What}
@@ -30,16 +30,6 @@ pub after-add : (a b x : ℕ) → after (a + b) x ≡ after b (after a x)
 unfolding after
 after-add a zero x = let z : a + 0 ≡ a = omega arith in rw z refl
 after-add a (suc b) x = let z : a + suc b ≡ suc (a + b) = omega arith in rw z (ap next_state (after-add a b x))
-
-pub range_push : (a n : ℕ) → range_with_len a (n + 1) ≡ range_with_len a n ++ (a + n) ∷ []
-range_push a zero = let z : a + 0 ≡ a = omega arith in rw z refl
-range_push a (suc n) =
-    let o : suc n + 1 ≡ suc (n + 1) = omega arith in
-    let z : a + 1 + n ≡ a + suc n = omega arith in
-    rw o (ap (λ (l : List ℕ). a ∷ l) (range_push (a + 1) n ∙ ap (λ (m : ℕ). range_with_len (a + 1) n ++ m ∷ []) z))
-
-pub range_next : (n : ℕ) → range_with_len 0 (n + 1) ≡ range_with_len 0 n ++ n ∷ []
-range_next n = let z : 0 + n ≡ n = omega arith in range_push 0 n ∙ ap (λ (m : ℕ). range_with_len 0 n ++ m ∷ []) z
 
 pub flat-push : (f : ℕ → List What) (xs : List ℕ) (y : ℕ) → flat_map f (xs ++ y ∷ []) ≡ flat_map f xs ++ f y
 flat-push f [] y = append-nil (f y)

@@ -8,17 +8,18 @@ use Rattle.std.proofs.lemmas.List.FromFn.{length-range_with_len}
 use Rattle.cod_types.specs.declared.call.Call.{Call}
 use Rattle.cod_types.specs.declared.call.Call.TheVariants.{Merge, Tick, Rebuild}
 use Rattle.cod_script.specs.declared.line.What.{What}
+use Rattle.cod_script.proofs.RoomSums.{range_more}
 use Rattle.cod_gen.specs.Drawn.{after}
 use Rattle.cod_gen.specs.Drafting.{Draft, with_line, with_lines, with_state, draws_in}
 use Rattle.cod_gen.specs.Generated.{on_segment, on_each, fail_and_rebuild, care_lines, reads_lines, read_line, write_line, round_lines, draws_ahead, client_lines}
-use Rattle.cod_gen.proofs.Lining.{lines-append, lines-state, after-add, range_next, flat-push}
+use Rattle.cod_gen.proofs.Lining.{lines-append, lines-state, after-add, flat-push}
 
 -- one call more
 pub each_next : (call : Call) (d : Draft) (n : ℕ)
     → with_line (with_lines d (map (λ s. on_segment s call) (range_with_len 0 n))) (on_segment n call) ≡ with_lines d (map (λ s. on_segment s call) (range_with_len 0 (n + 1)))
 each_next call d n =
     let e : map (λ s. on_segment s call) (range_with_len 0 (n + 1)) ≡ map (λ s. on_segment s call) (range_with_len 0 n) ++ on_segment n call ∷ [] =
-    ap (map (λ s. on_segment s call)) (range_next n) ∙ push (range_with_len 0 n) in
+    ap (map (λ s. on_segment s call)) (range_more n) ∙ push (range_with_len 0 n) in
     sym (ap (with_lines d) e ∙ lines-append d (map (λ s. on_segment s call) (range_with_len 0 n)) (on_segment n call ∷ [])) where
       push : (xs : List ℕ) → map (λ s. on_segment s call) (xs ++ n ∷ []) ≡ map (λ s. on_segment s call) xs ++ on_segment n call ∷ []
       push [] = refl
@@ -65,7 +66,7 @@ some_rounds number client n = flat_map (λ round. round_lines client round (afte
 pub rounds_next : (number client n : ℕ) → some_rounds number client (n + 1) ≡ some_rounds number client n ++ round_lines client n (after (draws_ahead client n) number)
 rounds_next number client n =
     let f : ℕ → List What = λ round. round_lines client round (after (draws_ahead client round) number) in
-    ap (flat_map f) (range_next n) ∙ flat-push f (range_with_len 0 n) n
+    ap (flat_map f) (range_more n) ∙ flat-push f (range_with_len 0 n) n
 
 pub rounds_length : (number client n : ℕ) → length (some_rounds number client n) ≤ n * 43
 rounds_length number client zero = omega arith
