@@ -1,19 +1,18 @@
 -- Which columns are live, and where they are.
-use Rattle.std.proofs.Common.{◌≡◌, ◌≢◌, ℕ, zero, suc, ◌+◌, ◌*◌, ◌%◌, ◌^◌, ◌<◌, ◌≤◌, ◌&&◌, ◌||◌, ◌==◌, nat_lt, nat_eq, replicate, List, [], ◌∷◌, length, take, get_or, set, Bool, true, false, cond}
-use Rattle.std.proofs.Common.{refl, sym, ap, ap₂, ◌∙◌, arith, add-one, inl, inr, w64, Option, Some, None, All}
+use Rattle.std.proofs.Common.{◌≡◌, ◌≢◌, ℕ, zero, suc, ◌+◌, ◌*◌, ◌%◌, ◌^◌, ◌<◌, ◌≤◌, ◌&&◌, ◌||◌, ◌==◌, nat_lt, nat_eq, replicate, List, length, take, get_or, set, Bool, true, false, cond}
+use Rattle.std.proofs.Common.{refl, sym, ap, ap₂, ◌∙◌, arith, add-one, inl, inr, w64, Some, None}
 use Rattle.std.specs.Prelude.{bit_or}
 use Rattle.std.specs.List.{list_any}
 use Rattle.std.proofs.lemmas.Nat.Bits.{bit_at_set_same, bit_at_set_other, bit_at-zero}
 use Rattle.std.proofs.lemmas.Bool.Decides.{nat_tests}
 use Rattle.std.proofs.lemmas.Bool.{cases_eq, cases_lt, lt-ltb, le-ltb}
-use Rattle.std.proofs.lemmas.List.{get_or_past, get_or_read, get_or-set_same, get_or-set_other, get_or-take, get_or-replicate, length-replicate, length-take}
+use Rattle.std.proofs.lemmas.List.{get_or_past, get_or-set_same, get_or-set_other, get_or-take, get_or-replicate, length-replicate, length-take}
 use Rattle.std.proofs.lemmas.List.Folds.{list_any_more}
 use Rattle.cod_code.specs.Choosing.{is_lowest, marked_below}
 use Rattle.cod_place.specs.Spares.{is_in}
-use Rattle.cod_types.specs.declared.call.NodeId.{NodeId}
 use Rattle.cod_seg.specs.Laws.{up_below}
 use Rattle.cod_seg.specs.Seg.{Col, col_at, no_col}
-use Rattle.cod_repair.specs.Columns.{is_source, is_taken, live_node}
+use Rattle.cod_repair.specs.Columns.{is_source, live_node}
 
 -- ---- a list that is filled place by place
 

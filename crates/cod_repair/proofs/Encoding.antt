@@ -9,7 +9,6 @@ use Rattle.cod_field.specs.Field.{product}
 use Rattle.cod_kernel.specs.Sums.{added_all_scaled, sum_at}
 use Rattle.cod_kernel.proofs.SumLaws.{AllLong, added_all_scaled_at}
 use Rattle.cod_code.specs.Columns.{combination, row_at}
-use Rattle.cod_code.specs.Encoding.{coded}
 use Rattle.cod_code.specs.Segments.{across, column, column_byte}
 use Rattle.cod_code.proofs.Rows.{range_more}
 use Rattle.cod_code.proofs.Segments.{across_length, column_is}

@@ -1,9 +1,9 @@
 -- What reads leave of the columns.
-use Rattle.std.proofs.Common.{◌≡◌, ◌≢◌, ℕ, zero, suc, ◌+◌, ◌<◌, ◌≤◌, ◌&&◌, nat_lt, List, length, get_or, set, Bool, true, false, cond, refl, sym, ap, ◌∙◌, arith, inl, inr}
+use Rattle.std.proofs.Common.{◌≡◌, ◌≢◌, ℕ, zero, suc, ◌<◌, ◌≤◌, ◌&&◌, nat_lt, List, length, set, Bool, true, false, cond, refl, sym, ap, ◌∙◌, arith, inl, inr}
 use Rattle.std.proofs.lemmas.Bool.{cases_eq, cases_lt, lt-ltb, le-ltb}
 use Rattle.std.proofs.lemmas.List.{get_or-set_same, get_or-set_other}
 use Rattle.cod_seg.specs.Seg.{Col, col_at, no_col}
-use Rattle.cod_repair.specs.Columns.{faults_at, HasValue, was_read, were_read}
+use Rattle.cod_repair.specs.Columns.{faults_at, was_read, were_read}
 use Rattle.cod_repair.specs.Laws.{ReadKeepsValue, WereReadAt}
 use Rattle.cod_repair.proofs.Reading.{length-were_read, were_read_rest}
 

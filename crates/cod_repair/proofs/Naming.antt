@@ -3,7 +3,7 @@ use Rattle.std.proofs.Common.{◌≡◌, ℕ, ◌<◌, List, length, get_or, set
 use Rattle.std.specs.Prelude.{is_err}
 use Rattle.std.proofs.lemmas.List.{get_or_read, get_or-set_same}
 use Rattle.cod_types.specs.declared.errors.Failed.{Failed}
-use Rattle.cod_types.specs.Faults.{HasCause, Rose}
+use Rattle.cod_types.specs.Faults.{HasCause}
 use Rattle.cod_seg.specs.Seg.{Col, col_at, no_col}
 use Rattle.cod_repair.specs.declared.columns.ColumnFailed.{ColumnFailed}
 use Rattle.cod_repair.specs.Columns.{faults_at, IsTold}

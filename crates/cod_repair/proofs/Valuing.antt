@@ -1,5 +1,5 @@
 -- The column that a loop is at, and what a loop over columns leaves.
-use Rattle.std.proofs.Common.{◌≡◌, ℕ, zero, suc, ◌+◌, ◌-◌, ◌<◌, ◌≤◌, nat_lt, Bool, true, false, List, length, take, drop, get_or, refl, sym, ap, subst, ◌∙◌, arith, set, ◌++◌, Option, Some, None}
+use Rattle.std.proofs.Common.{◌≡◌, ℕ, ◌+◌, ◌<◌, ◌≤◌, Bool, true, List, length, take, drop, get_or, refl, sym, ap, subst, ◌∙◌, arith, set, ◌++◌, Option, Some, None}
 use Rattle.std.proofs.Common.{Result, Ok, Err, inl, inr, Bor, MatchOption, MatchResult, IfErr}
 use Rattle.std.proofs.lemmas.Bool.{cases_lt}
 use Rattle.std.proofs.lemmas.List.{take_at, get_or_read}

@@ -1,5 +1,4 @@
-use Rattle.std.proofs.Common.{◌≡◌, ◌∙◌, ◌<◌, ◌≤◌, ℕ, List, Bor, All, length, map, replicate, take, refl, sym, ap, arith, length-set}
-use Rattle.cod_kernel.specs.Sums.{added_all_scaled}
+use Rattle.std.proofs.Common.{◌≡◌, ◌∙◌, ◌<◌, ◌≤◌, ℕ, length, refl, ap, arith, length-set}
 use Rattle.cod_code.specs.Columns.{row_at}
 use Rattle.cod_repair.proofs.Encoding.{encoded, part, parts_more, sources_long}
 use Rattle.cod_repair.proofs.bench.encode.Goals as goal

@@ -1,5 +1,4 @@
-use Rattle.std.proofs.Common.{◌≡◌, ◌∙◌, ◌≤◌, ℕ, List, length, sym, ap, arith}
-use Rattle.cod_code.specs.Segments.{column}
+use Rattle.std.proofs.Common.{◌∙◌, ◌≤◌, ℕ, List, length, sym, ap, arith}
 use Rattle.cod_code.proofs.Segments.{column_length, data_column_is_block}
 use Rattle.cod_repair.proofs.calls.block_of.Goals as goal
 

@@ -1,4 +1,4 @@
-use Rattle.std.proofs.Common.{◌≡◌, ◌∙◌, ◌<◌, ℕ, None, Some, length, true, false, sym, ap, arith, length-set}
+use Rattle.std.proofs.Common.{◌≡◌, ◌∙◌, ℕ, None, Some, true, false, sym, ap, arith, length-set}
 use Rattle.std.proofs.lemmas.List.{get_or_read}
 use Rattle.cod_seg.specs.Seg.{Col, col_at, no_col}
 use Rattle.cod_repair.specs.Columns.{live_node}

@@ -1,4 +1,4 @@
-use Rattle.std.proofs.Common.{◌≡◌, ◌∙◌, ◌≤◌, ℕ, Bool, length, take, arith}
+use Rattle.std.proofs.Common.{◌≡◌, ◌∙◌, Bool, length, take, arith}
 use Rattle.std.proofs.lemmas.List.{length-take}
 use Rattle.cod_repair.proofs.Choosing.{front_mark, lowest_source, marked_up}
 use Rattle.cod_repair.proofs.sources.lowest_live.Goals as goal

@@ -1,4 +1,4 @@
-use Rattle.std.proofs.Common.{◌≡◌, ℕ, ◌+◌, ◌<◌, ◌≤◌, length, get_or, bit_xor, true}
+use Rattle.std.proofs.Common.{◌≡◌, ℕ, ◌+◌, ◌<◌, length, get_or, bit_xor, true}
 use Rattle.cod_code.specs.Columns.{has_column}
 use Rattle.cod_seg.specs.Seg.{col_at}
 use Rattle.cod_repair.specs.Columns.{HasValue, were_read}

@@ -1,4 +1,4 @@
-use Rattle.std.proofs.Common.{◌≡◌, ◌∙◌, ◌+◌, ◌<◌, ℕ, List, length, sym, ap, ap₂, arith}
+use Rattle.std.proofs.Common.{◌≡◌, ◌∙◌, ◌<◌, ℕ, List, length, sym, ap, ap₂, arith}
 use Rattle.cod_code.specs.Columns.{has_column}
 use Rattle.cod_code.specs.Segments.{column_byte}
 use Rattle.cod_types.specs.Limits.{Shape}

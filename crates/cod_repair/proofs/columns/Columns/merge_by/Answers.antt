@@ -1,6 +1,6 @@
-use Rattle.std.proofs.Common.{◌≡◌, ◌∙◌, ◌<◌, ℕ, List, length, set, true, false, sym, ap, arith}
+use Rattle.std.proofs.Common.{◌≡◌, ◌∙◌, ◌<◌, List, length, set, true, false, sym, ap, arith}
 use Rattle.std.specs.Prelude.{is_err}
-use Rattle.cod_seg.specs.Seg.{Col, col_at}
+use Rattle.cod_seg.specs.Seg.{Col}
 use Rattle.cod_repair.proofs.Naming.{err_only, new_col, ok_of, ok_only, old_col, told_err, told_ok}
 use Rattle.cod_repair.proofs.columns.Columns.merge_by.Goals as goal
 

@@ -1,4 +1,4 @@
-use Rattle.std.proofs.Common.{◌≡◌, ◌∙◌, ◌<◌, ℕ, List, length, false, sym, ap, arith}
+use Rattle.std.proofs.Common.{◌≡◌, ◌∙◌, ◌<◌, List, length, false, sym, ap, arith}
 use Rattle.std.specs.Prelude.{is_err}
 use Rattle.cod_types.specs.Overwritten.{byte_of}
 use Rattle.cod_claims.specs.Claimed.{claim_at, kept_of}

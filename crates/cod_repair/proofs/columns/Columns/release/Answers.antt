@@ -1,4 +1,4 @@
-use Rattle.std.proofs.Common.{◌≡◌, ◌<◌, List, length, ap, arith}
+use Rattle.std.proofs.Common.{◌<◌, List, length, ap, arith}
 use Rattle.cod_seg.specs.Seg.{Col}
 use Rattle.cod_repair.proofs.Naming.{old_col}
 use Rattle.cod_repair.proofs.columns.Columns.release.Goals as goal

@@ -1,4 +1,4 @@
-use Rattle.std.proofs.Common.{◌≡◌, ◌∙◌, List, ap, set, false}
+use Rattle.std.proofs.Common.{◌∙◌, List, ap, set, false}
 use Rattle.std.proofs.lemmas.List.{set-set}
 use Rattle.cod_seg.specs.Seg.{Col, col_at}
 use Rattle.cod_repair.proofs.columns.Columns.shift.Goals as goal

@@ -1,7 +1,6 @@
-use Rattle.std.proofs.Common.{◌≡◌, ◌∙◌, ◌<◌, ℕ, List, length, set, true, false, sym, ap, arith}
-use Rattle.std.specs.Prelude.{is_err}
-use Rattle.cod_seg.specs.Seg.{Col, col_at}
-use Rattle.cod_repair.proofs.Naming.{err_only, new_col, ok_of, ok_only, old_col, told_err, told_ok}
+use Rattle.std.proofs.Common.{◌<◌, List, length, ap, arith}
+use Rattle.cod_seg.specs.Seg.{Col}
+use Rattle.cod_repair.proofs.Naming.{new_col, old_col}
 use Rattle.cod_repair.proofs.columns.Columns.tick_by.Goals as goal
 
 pub tick-requires-clause-room : goal.tick-requires-clause-room
