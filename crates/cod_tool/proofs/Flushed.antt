@@ -1,8 +1,7 @@
 -- A text that was taken, and then brought to where it goes.
-use Rattle.std.proofs.Common.{◌≡◌, ◌⊎◌, ℕ, ◌+◌, ◌-◌, ◌≤◌, ◌^◌, min, List, [], ◌++◌, length, Option, Some, None, refl, sym, ap, ◌∙◌, subst, inl, inr, arith, append-nil, append_assoc}
+use Rattle.std.proofs.Common.{◌≡◌, ℕ, ◌≤◌, List, [], ◌++◌, Option, Some, None, refl, sym, ap, ◌∙◌, inl, inr, arith, append-nil, append_assoc}
 use Rattle.std.specs.Io.KnownBytes.{prepend_known}
-use Rattle.cod_types.specs.Faults.{Rose, bump}
-use Rattle.cod_types.proofs.Faults.{rose_before, rose_after}
+use Rattle.cod_types.proofs.Faults.{rose_before}
 use Rattle.cod_print.specs.Puts.{TakesFront}
 use Rattle.cod_region.specs.Device.{AllRegions}
 use Rattle.cod_script.specs.Script.{Script}
@@ -10,7 +9,7 @@ use Rattle.cod_tool.specs.declared.command.Command.{Command}
 use Rattle.cod_tool.specs.declared.command.Command.TheVariants as command
 use Rattle.cod_tool.specs.declared.command.Purpose.{Purpose}
 use Rattle.cod_tool.specs.declared.command.Purpose.TheVariants as purpose
-use Rattle.cod_tool.specs.Replays.{Does, Ran, ReadsAtMost, ReadsScenario, Refuses, RefusesScenario, RefusesText, Serves, TakesAll, TakesLine}
+use Rattle.cod_tool.specs.Replays.{Does, Ran, ReadsAtMost, Refuses, RefusesScenario, Serves, TakesAll, TakesLine}
 
 -- ---- how a text is taken
 
@@ -31,6 +30,7 @@ pub does_as : (on : AllRegions) (c : Command) (left left' : Option (List ℕ)) (
 does_as on (command.Scenario asked) left left' T U so d =
     record { bytes = d.bytes; scenario = d.scenario; read = d.read; end = d.end; text = d.text; holds = serves_as on asked d.scenario T U so d.holds }
 does_as on (command.Code n k) left left' T U so d = (d.0, so _ d.1)
+does_as on (command.Gen number) left left' T U so d = (d.0, so _ d.1)
 
 refuses_scenario_as : (asked : Purpose) (x : Script) (T U : List ℕ → Type 0) → ((text : List ℕ) → T text → U text) → RefusesScenario asked T x → RefusesScenario asked U x
 refuses_scenario_as purpose.Replay x T U so r = (r.0, so _ r.1)
@@ -44,6 +44,7 @@ refuses_as (command.Scenario asked) left left' T U so (inl r) =
 refuses_as (command.Scenario asked) left left' T U so (inr d) =
     inr (record { bytes = d.bytes; scenario = d.scenario; read = d.read; end = d.end; text = d.text; holds = refuses_scenario_as asked d.scenario T U so d.holds })
 refuses_as (command.Code n k) left left' T U so r = r
+refuses_as (command.Gen number) left left' T U so r = r
 
 -- a front that was taken, where nothing more was
 pub front_later : (taken middle taken' : Option (List ℕ)) (text : List ℕ) → taken' ≡ middle → TakesFront taken middle text → TakesFront taken taken' text

@@ -3,7 +3,7 @@ use Rattle.std.specs.Prelude.{ℕ, ◌≤◌, ◌&&◌, nat_le, if◌then◌else
 use Rattle.std.specs.Str.{bytes_eq}
 use Rattle.cod_words.specs.Words.{number_of}
 use Rattle.cod_tool.specs.declared.command.Command.{Command}
-use Rattle.cod_tool.specs.declared.command.Command.TheVariants.{Scenario, Code}
+use Rattle.cod_tool.specs.declared.command.Command.TheVariants.{Scenario, Code, Gen}
 use Rattle.cod_tool.specs.declared.command.Purpose.TheVariants.{Replay, Check, Plan}
 
 -- the command that one word is
@@ -25,8 +25,15 @@ pub record IsCode (n k : ℕ) : Type 0 where
   pub within_columns : k ≤ n
   pub most : n ≤ 16
 
--- `replay`, `check`, `plan`, or `code N K` with two numbers of 1 to 10 digits; no other words are a command
+-- `gen NUMBER`
+abbrev pub gen_of : (number : Option ℕ) → Option Command
+gen_of (Some number) = Some (Gen number)
+gen_of None = None
+
+-- `replay`, `check`, `plan`, `gen NUMBER`, or `code N K`, where a number is 1 to 10 digits with a value below 2^32; no other words are a
+-- command
 abbrev pub command_of : List (List ℕ) → Option Command
 command_of (word ∷ []) = command_alone word
+command_of (word ∷ number ∷ []) = if bytes_eq word (codes "gen") then gen_of (number_of number) else None
 command_of (word ∷ n ∷ k ∷ []) = if bytes_eq word (codes "code") then code_of (number_of n) (number_of k) else None
 command_of _ = None

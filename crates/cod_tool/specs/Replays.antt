@@ -8,6 +8,8 @@ use Rattle.cod_chronicle.specs.declared.entry.Entry.{Entry}
 use Rattle.cod_chronicle.specs.Said.{site_as, is_down, node_of}
 use Rattle.cod_chronicle.specs.Legal.{node_id}
 use Rattle.cod_script.specs.Script.{Script}
+use Rattle.cod_script.specs.Text.{canonical_text}
+use Rattle.cod_gen.specs.Generated.{generated}
 use Rattle.cod_script.specs.Owed.{owed, IsHistory}
 use Rattle.cod_scenario.specs.declared.refusal.Refusal.{Refusal}
 use Rattle.cod_scenario.specs.Reads.{reads, IsTextOf}
@@ -102,24 +104,35 @@ RefusesScenario purpose.Check Took x = ⊥
 RefusesScenario purpose.Plan Took x = ⊥
 
 -- What a command does where it ends well. `left` and `left'` are what the source still has before and afterwards. The
--- coefficients of a code are printed without the source.
+-- coefficients of a code, and the scenario that a number gives, are printed without the source.
 abbrev pub Does : (on : AllRegions) → Command → (left left' : Option (List ℕ)) (Took : List ℕ → Type 0) → Type 0
 Does on (command.Scenario purpose) left left' Took = ReadsScenario (Serves on purpose Took) left left'
 Does on (command.Code n k) left left' Took = (left' ≡ left) × Took (coefficients_text n k)
+Does on (command.Gen number) left left' Took = (left' ≡ left) × Took (canonical_text (generated number))
 
 -- what a command has read and refused
 abbrev pub Refuses : Command → (left left' : Option (List ℕ)) (Took : List ℕ → Type 0) → Type 0
 Refuses (command.Scenario purpose) left left' Took = RefusesText left left' Took ⊎ ReadsScenario (RefusesScenario purpose Took) left left'
 Refuses (command.Code n k) left left' Took = ⊥
+Refuses (command.Gen number) left left' Took = ⊥
 
 -- A command has all that it wants of its input: it reads no scenario, or what the source has is the text of one, and of one that is
 -- built where it is to be replayed.
 abbrev pub CanServe : Command → (left : Option (List ℕ)) → Type 0
 CanServe (command.Scenario asked) left = (bytes : List ℕ) × (x : Script) × (left ≡ Some bytes) × IsTextOf bytes x × (asked ≡ purpose.Replay → is_built x ≡ true)
 CanServe (command.Code n k) left = Unit {0}
+CanServe (command.Gen number) left = Unit {0}
 
 -- the command reads the source
 abbrev pub reads_source : Option Command → Bool
 reads_source (Some (command.Scenario purpose)) = true
 reads_source (Some (command.Code n k)) = false
+reads_source (Some (command.Gen number)) = false
 reads_source None = false
+
+-- the command takes memory
+abbrev pub takes_memory : Option Command → Bool
+takes_memory (Some (command.Scenario purpose)) = true
+takes_memory (Some (command.Code n k)) = false
+takes_memory (Some (command.Gen number)) = true
+takes_memory None = false

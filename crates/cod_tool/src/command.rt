@@ -2,7 +2,7 @@
 ghost use Rattle.std.specs.Prelude.{◌≡◌, ℕ, map, string_bytes, Some};
 ghost use Rattle.cod_words.specs.Words.{number_of};
 ghost use Rattle.cod_tool.specs.declared.command.Command.TheVariants.{Code};
-ghost use Rattle.cod_tool.specs.Commands.{IsCode, code_of, command_alone, command_of};
+ghost use Rattle.cod_tool.specs.Commands.{IsCode, code_of, command_alone, command_of, gen_of};
 
 use cod_words::word_number;
 
@@ -24,6 +24,8 @@ pub enum Command {
     Scenario(Purpose),
     /// Print the coefficients of the code with `n` columns, of which `k` are data.
     Code { n: u8, k: u8 },
+    /// Print the scenario that a number gives.
+    Gen(u32),
 }
 
 /// The command of one word.
@@ -57,6 +59,13 @@ fn code(columns: &[u8], data_columns: &[u8]) -> Option<Command>
     }
 }
 
+/// The scenario with this number, where the word is one.
+fn generated(number: &[u8]) -> Option<Command>
+    ensures { result ≡ gen_of (number_of number.now) }
+{
+    Some(Command::Gen(word_number(number)?))
+}
+
 impl Command {
     /// The command that these words are, those after the program's name, if they are one.
     #[tactic(auto, using(crate::proofs::Words::code_limits))]
@@ -66,6 +75,7 @@ impl Command {
     {
         match words {
             [word] => alone(word.as_str()),
+            [word, number] if word.as_str() == "gen" => generated(number.as_bytes()),
             [word, n, k] if word.as_str() == "code" => code(n.as_bytes(), k.as_bytes()),
             _ => None,
         }

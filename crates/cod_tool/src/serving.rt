@@ -3,6 +3,8 @@ ghost use Rattle.std.specs.Prelude.{◌≡◌, ◌⊎◌, ◌↔◌, ◌≤◌, 
 ghost use Rattle.std.specs.Option.{is_some};
 ghost use Rattle.cod_types.specs.Faults.{Rose};
 ghost use Rattle.cod_print.specs.Puts.{TakesFront};
+ghost use Rattle.cod_script.specs.Text.{canonical_text};
+ghost use Rattle.cod_gen.specs.Generated.{generated};
 ghost use Rattle.cod_tool.specs.HasRun.{HasRun};
 ghost use Rattle.cod_tool.specs.Coefficients.{coefficients_text};
 ghost use Rattle.cod_tool.specs.Commands.{command_of};
@@ -11,7 +13,7 @@ ghost use Rattle.cod_tool.specs.Built.{IsFit};
 ghost use Rattle.cod_tool.specs.Refused.{refusal_text};
 ghost use Rattle.cod_tool.specs.Planned.{check_text, placement_text};
 ghost use Rattle.cod_tool.specs.Replays.{CanServe, Does, Ran, ReadsAtMost, ReadsScenario, Refuses, RefusesScenario, RefusesText, Serves, TakesAll, TakesLine};
-ghost use Rattle.cod_tool.specs.Replays.{reads_source};
+ghost use Rattle.cod_tool.specs.Replays.{reads_source, takes_memory};
 
 use crate::building::build;
 use crate::built::is_built;
@@ -23,6 +25,7 @@ use crate::running::{run, slips};
 use crate::status::{BAD_WORDS, DONE, NO_MEMORY, REFUSED, SINK_FAILED, SOURCE_FAILED};
 use crate::{checking, coding, planning, refusing};
 use cod_code::Code;
+use cod_gen::generate;
 use cod_io::{Sink, Source};
 use cod_region::Shelf;
 use cod_scenario::{Refusal, ScenarioError};
@@ -203,6 +206,24 @@ fn print_code<W: Sink>(sink: &mut W, code: &Code) -> u8
     }
 }
 
+/// Prints the scenario that a number gives.
+fn print_generated<W: Sink>(alloc: Global, sink: &mut W, number: u32) -> u8
+    ensures done { result ≡ DONE → TakesAll (W.taken sink.old) (W.taken sink.new) (canonical_text (generated number)) }
+    ensures quiet { result ≡ DONE → W.fault_count sink.new ≡ W.fault_count sink.old }
+    ensures failed { result ≡ SINK_FAILED → Rose (W.fault_count sink.old) (W.fault_count sink.new) }
+    ensures front { result ≡ SINK_FAILED → TakesFront (W.taken sink.old) (W.taken sink.new) (canonical_text (generated number)) }
+    ensures memory { result ≡ NO_MEMORY → (W.taken sink.new ≡ W.taken sink.old) × (W.fault_count sink.new ≡ W.fault_count sink.old) }
+    ensures statuses { (result ≡ DONE) ⊎ ((result ≡ SINK_FAILED) ⊎ (result ≡ NO_MEMORY)) }
+{
+    match generate(alloc, number) {
+        Ok(scenario) => match scenario.write(sink) {
+            Ok(()) => DONE,
+            Err(_) => SINK_FAILED,
+        },
+        Err(_) => NO_MEMORY,
+    }
+}
+
 /// Does what the words ask, those after the program's name, over regions of this shelf. What is printed may still wait in the sink.
 pub fn perform<S: Source, W: Sink, H: Shelf>(
     alloc: Global,
@@ -232,7 +253,8 @@ pub fn perform<S: Source, W: Sink, H: Shelf>(
     ensures nothing { (result ≡ SOURCE_FAILED) ⊎ (result ≡ NO_MEMORY)
         → (W.taken sink.new ≡ W.taken sink.old) × (W.fault_count sink.new ≡ W.fault_count sink.old) }
     ensures source { reads_source (command_of (map (λ w. string_bytes w) words.now)) ≡ false
-        → ((result ≡ DONE) ⊎ ((result ≡ BAD_WORDS) ⊎ (result ≡ SINK_FAILED)))
+        → ((result ≡ DONE) ⊎ ((result ≡ BAD_WORDS) ⊎ ((result ≡ SINK_FAILED)
+        ⊎ ((result ≡ NO_MEMORY) × (takes_memory (command_of (map (λ w. string_bytes w) words.now)) ≡ true)))))
         × ((S.left source.new ≡ S.left source.old) × (S.fault_count source.new ≡ S.fault_count source.old)) }
     ensures complete { (c : _) → command_of (map (λ w. string_bytes w) words.now) ≡ Some c → CanServe c (S.left source.old)
         → (Rose (S.fault_count source.old) (S.fault_count source.new) → ⊥) → (Rose (W.fault_count sink.old) (W.fault_count sink.new) → ⊥)
@@ -243,6 +265,7 @@ pub fn perform<S: Source, W: Sink, H: Shelf>(
     match Command::of(words) {
         Some(Command::Scenario(purpose)) => serve_text(alloc, purpose, source, sink, shelf),
         Some(Command::Code { n, k }) => print_code(sink, &Code::new(n, k)),
+        Some(Command::Gen(number)) => print_generated(alloc, sink, number),
         None => {
             refuse(sink, b"words\n");
             BAD_WORDS

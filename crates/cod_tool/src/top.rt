@@ -1,9 +1,9 @@
 //! All that the program does.
-ghost use Rattle.std.specs.Prelude.{◌≡◌, ◌⊎◌, ◌↔◌, ◌≤◌, false, None, Some, map, codes, string_bytes};
+ghost use Rattle.std.specs.Prelude.{◌≡◌, ◌⊎◌, ◌↔◌, ◌≤◌, true, false, None, Some, map, codes, string_bytes};
 ghost use Rattle.cod_types.specs.Faults.{Rose};
 ghost use Rattle.cod_print.specs.Puts.{TakesFront};
 ghost use Rattle.cod_tool.specs.Commands.{command_of};
-ghost use Rattle.cod_tool.specs.Replays.{CanServe, Does, ReadsAtMost, Refuses, TakesAll, TakesLine, reads_source};
+ghost use Rattle.cod_tool.specs.Replays.{CanServe, Does, ReadsAtMost, Refuses, TakesAll, TakesLine, reads_source, takes_memory};
 
 use crate::serving::perform;
 use crate::status::{BAD_WORDS, DONE, NO_MEMORY, REFUSED, SINK_FAILED, SOURCE_FAILED};
@@ -35,8 +35,9 @@ fn finish<W: Sink>(sink: &mut W, status: u8) -> u8
 /// The status is 0 where the command of the words was done and its text was taken whole and has come to where it goes; 2 exactly
 /// where the words are no command; 3 where the bytes of the source are not the text of a scenario, or too many, or where one that
 /// isn't built so far is to be replayed; 4 only where the source failed; 5 only where the sink failed, which took a front of the
-/// text; 6 for want of memory, before the first call of a replay is made. `code` ends with 0 or 5. At most 2^24 + 1 bytes are
-/// read. The source is as it was after `code`, and where the words are no command.
+/// text; 6 for want of memory, before the first call of a replay is made and before anything is printed. `code` ends with 0 or
+/// 5, `gen` with 0, 5 or 6. At most 2^24 + 1 bytes are read. The source is as it was after `code` and `gen`, and where the words
+/// are no command.
 pub fn tool<S: Source, W: Sink, H: Shelf + Drop>(
     alloc: Global,
     words: &[String],
@@ -64,7 +65,8 @@ pub fn tool<S: Source, W: Sink, H: Shelf + Drop>(
     ensures nothing { (result ≡ SOURCE_FAILED) ⊎ (result ≡ NO_MEMORY)
         → (W.taken sink.new ≡ W.taken sink.old) × (W.fault_count sink.new ≡ W.fault_count sink.old) }
     ensures source { reads_source (command_of (map (λ w. string_bytes w) words.now)) ≡ false
-        → ((result ≡ DONE) ⊎ ((result ≡ BAD_WORDS) ⊎ (result ≡ SINK_FAILED)))
+        → ((result ≡ DONE) ⊎ ((result ≡ BAD_WORDS) ⊎ ((result ≡ SINK_FAILED)
+        ⊎ ((result ≡ NO_MEMORY) × (takes_memory (command_of (map (λ w. string_bytes w) words.now)) ≡ true)))))
         × ((S.left source.new ≡ S.left source.old) × (S.fault_count source.new ≡ S.fault_count source.old)) }
     ensures complete { (c : _) → command_of (map (λ w. string_bytes w) words.now) ≡ Some c → CanServe c (S.left source.old)
         → (Rose (S.fault_count source.old) (S.fault_count source.new) → ⊥) → (Rose (W.fault_count sink.old) (W.fault_count sink.new) → ⊥)

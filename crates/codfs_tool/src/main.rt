@@ -1,4 +1,4 @@
-//! Replays, checks or plans a scenario, or prints the coefficients of a code.
+//! Replays, checks or plans a scenario, or prints the coefficients of a code, or the scenario that a number gives.
 #![tactic(auto)]
 
 use cod_tool::{NO_MEMORY, over};

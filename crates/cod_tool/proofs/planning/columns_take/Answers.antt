@@ -1,5 +1,5 @@
 use Rattle.std.proofs.Common.{◌≡◌, ℕ, arith}
-use Rattle.cod_script.specs.Room.{column_on, taken_by}
+use Rattle.cod_script.specs.Room.{column_on}
 use Rattle.cod_tool.proofs.Sums.{sums_more}
 use Rattle.cod_tool.proofs.planning.columns_take.Goals as goal
 

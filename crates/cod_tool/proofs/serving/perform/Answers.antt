@@ -1,4 +1,4 @@
-use Rattle.std.proofs.Common.{◌≡◌, ◌∙◌, Some, sym, subst}
+use Rattle.std.proofs.Common.{◌≡◌, ◌∙◌, sym, subst}
 use Rattle.cod_tool.specs.declared.command.Command.TheVariants as command
 use Rattle.cod_tool.specs.Replays.{CanServe}
 use Rattle.cod_tool.proofs.Completeness.{not_refused, two_left}

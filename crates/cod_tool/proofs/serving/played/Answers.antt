@@ -5,7 +5,6 @@ use Rattle.std.proofs.lemmas.List.{length-map}
 use Rattle.cod_types.specs.Limits.{Shape}
 use Rattle.cod_chronicle.specs.Legal.{node_id}
 use Rattle.cod_script.specs.Script.{Ask, asks}
-use Rattle.cod_tool.specs.Blocks.{device_at}
 use Rattle.cod_tool.specs.Ready.{asks_of}
 use Rattle.std.specs.List.{list_all}
 use Rattle.cod_tool.specs.declared.slip.Slip.{Slip}
