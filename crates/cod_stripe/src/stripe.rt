@@ -1,0 +1,149 @@
+//! A segment of which all that is promised holds between its events.
+
+ghost use Rattle.std.specs.Prelude.{◌≡◌, ◌+◌, ◌<◌, ◌++◌, ℕ, List, IsSome, length, false, true};
+ghost use Rattle.cod_chronicle.specs.Event.{Setting};
+ghost use Rattle.cod_chronicle.specs.Legal.{node_id};
+ghost use Rattle.cod_place.specs.Room.{Room};
+ghost use Rattle.cod_seg.specs.Next.{next_step, open_in};
+ghost use Rattle.cod_seg.specs.Seg.{col_at};
+ghost use Rattle.cod_seg.specs.Sound.{is_frail};
+ghost use Rattle.cod_seg.specs.declared.next.Step.TheVariants as step;
+ghost use Rattle.cod_repair.specs.Columns.{line_of};
+ghost use Rattle.cod_stripe.specs.Events.{call_in, Costs, HasRoom, is_answered, IsAsked, IsOutcome, IsSettingOf, kills_at, Makes, NoneFails, request_of, rooms_of};
+
+use crate::asking::{Around, Outcome};
+use crate::inner::Inner;
+use cod_board::Board;
+use cod_chronicle::{Chronicle, Stands};
+use cod_claims::Slip;
+use cod_place::Pools;
+use cod_predict::Rule;
+use cod_region::{Region, Shelf};
+use cod_step::{Step, next_step};
+use cod_types::{Caller, Cuts, LayoutLine};
+use std::marker::Model;
+
+/// One segment: its columns on their nodes, which updates are in progress, and all that happened to it. An event is one
+/// step of one call; it takes no memory but in `rebuild_start`, in `drain`, and for a decoding row that is kept.
+#[derive(Drop)]
+pub struct Stripe<R: Region> {
+    inner: Inner<R>,
+}
+
+impl<R: Region> Model for Stripe<R> {
+    ghost use Rattle.cod_seg.specs.Seg.{Seg};
+    ghost use Rattle.cod_seg.specs.Sound.{Sound};
+
+    ghost Value = { Seg };
+
+    ghost view = { λ s. s.inner };
+
+    ghost invariant = { λ s. Sound s.inner };
+}
+
+impl<R: Region> Stripe<R> {
+    /// What is printed of a column.
+    pub fn layout(&self, col: u8) -> LayoutLine
+        requires { col < self.now.site.shape.n }
+        ensures { result ≡ line_of (record { 0 = self.now.site.segment }) col (col_at self.now.cols col) }
+    {
+        self.inner.columns.line(self.inner.segment, col)
+    }
+
+    /// How many updates of each block are committed.
+    pub fn cuts(&self) -> &Cuts
+        ensures { result.now ≡ self.now.cuts }
+    {
+        &self.inner.cuts
+    }
+
+    /// The version of the records that it writes.
+    pub fn version(&self) -> u8
+        ensures { result ≡ self.now.version }
+    {
+        self.inner.version
+    }
+
+    /// What the next event of a caller's call does.
+    pub fn next_step(&self, slip: &Slip, caller: Caller) -> Step
+        requires { IsSome slip.now.call }
+        ensures { result ≡ next_step self.now caller.0 (call_in slip.now) }
+    {
+        next_step(&self.inner.scene(), slip.call(), caller)
+    }
+
+    /// Answers a call that its own numbers refuse.
+    pub fn refuse<B: Board, P: Pools, H: Shelf<Region = R>, W: Rule>(
+        &mut self,
+        slip: &mut Slip,
+        around: &mut Around<'_, B, P, H, W>,
+    ) -> Outcome
+        requires next { next_step self.old around.old.caller.0 (call_in slip.old) ≡ step.Refuse }
+        requires asked { IsAsked self.old around.old.caller.0 around.old.number slip.old (call_in slip.old) }
+        requires board { (length (B.kills around.old.board.now) ≡ self.old.site.nodes) × B.ready around.old.board.now }
+        requires pools { (P.nodes around.old.pools.now ≡ self.old.site.nodes) × P.ready around.old.pools.now × P.Came around.old.pools.now (rooms_of self.old) }
+        requires shelf { (node : ℕ) → is_frail self.old.frail node ≡ false → (H.regions around.old.shelf.now).never_fail (node_id node) ≡ true }
+        requires bench { around.old.bench.now ≡ self.old.site.shape }
+        requires room { HasRoom 2 self.old }
+        ensures makes { (w : Setting) → IsSettingOf w self.old → ((x : ℕ) → w.seen x ≡ kills_at (B.kills around.new.board.now) x)
+            → Makes w (request_of around.old.caller.0 around.old.number (call_in slip.old)) around.old.clock.now around.new.clock.now (is_answered result) self.old self.new }
+        ensures outcome { IsOutcome result (request_of around.old.caller.0 around.old.number (call_in slip.old)) around.new.clock.now self.new slip.new }
+        ensures costs { NoneFails self.old self.new → Costs self.old around.old.caller.0 (call_in slip.old) step.Refuse self.new }
+        ensures rooms { (rest : List Room) → P.Came around.old.pools.now (rooms_of self.old ++ rest) → P.Came around.new.pools.now (rooms_of self.new ++ rest) }
+        ensures lent { (around.new.board.ghost_name ≡ around.old.board.ghost_name) × (around.new.pools.ghost_name ≡ around.old.pools.ghost_name)
+            × (around.new.bench.ghost_name ≡ around.old.bench.ghost_name) × (around.new.clock.ghost_name ≡ around.old.clock.ghost_name) }
+        ensures who { (around.new.caller ≡ around.old.caller) × (around.new.number ≡ around.old.number) × (around.new.bench.now ≡ around.old.bench.now) }
+        ensures same { B.ready around.new.board.now × B.same around.old.board.now around.new.board.now × P.ready around.new.pools.now × P.same around.old.pools.now around.new.pools.now }
+    {
+        let entered = self.inner.refusal_of(slip);
+        let told = self.inner.refusal_of(slip);
+        let asker = around.asker();
+        self.inner.answer(slip, asker, around.clock, entered, told)
+    }
+
+    /// From now on records are written in version 2; it answers.
+    pub fn upgrade<B: Board, P: Pools, H: Shelf<Region = R>, W: Rule>(
+        &mut self,
+        slip: &mut Slip,
+        around: &mut Around<'_, B, P, H, W>,
+    ) -> Outcome
+        requires next { next_step self.old around.old.caller.0 (call_in slip.old) ≡ step.Upgrade }
+        requires asked { IsAsked self.old around.old.caller.0 around.old.number slip.old (call_in slip.old) }
+        requires board { (length (B.kills around.old.board.now) ≡ self.old.site.nodes) × B.ready around.old.board.now }
+        requires pools { (P.nodes around.old.pools.now ≡ self.old.site.nodes) × P.ready around.old.pools.now × P.Came around.old.pools.now (rooms_of self.old) }
+        requires shelf { (node : ℕ) → is_frail self.old.frail node ≡ false → (H.regions around.old.shelf.now).never_fail (node_id node) ≡ true }
+        requires bench { around.old.bench.now ≡ self.old.site.shape }
+        requires room { HasRoom 2 self.old }
+        ensures makes { (w : Setting) → IsSettingOf w self.old → ((x : ℕ) → w.seen x ≡ kills_at (B.kills around.new.board.now) x)
+            → Makes w (request_of around.old.caller.0 around.old.number (call_in slip.old)) around.old.clock.now around.new.clock.now (is_answered result) self.old self.new }
+        ensures outcome { IsOutcome result (request_of around.old.caller.0 around.old.number (call_in slip.old)) around.new.clock.now self.new slip.new }
+        ensures costs { NoneFails self.old self.new → Costs self.old around.old.caller.0 (call_in slip.old) step.Upgrade self.new }
+        ensures rooms { (rest : List Room) → P.Came around.old.pools.now (rooms_of self.old ++ rest) → P.Came around.new.pools.now (rooms_of self.new ++ rest) }
+        ensures lent { (around.new.board.ghost_name ≡ around.old.board.ghost_name) × (around.new.pools.ghost_name ≡ around.old.pools.ghost_name)
+            × (around.new.bench.ghost_name ≡ around.old.bench.ghost_name) × (around.new.clock.ghost_name ≡ around.old.clock.ghost_name) }
+        ensures who { (around.new.caller ≡ around.old.caller) × (around.new.number ≡ around.old.number) × (around.new.bench.now ≡ around.old.bench.now) }
+        ensures same { B.ready around.new.board.now × B.same around.old.board.now around.new.board.now × P.ready around.new.pools.now × P.same around.old.pools.now around.new.pools.now }
+    {
+        let asker = around.asker();
+        self.inner.upgrade(slip, asker, around.clock)
+    }
+}
+
+impl<R: Region> Stands for Stripe<R> {
+    ghost use Rattle.cod_seg.specs.Next.{open_in};
+    ghost use Rattle.cod_stripe.specs.Standing.{gauge_of, IsStep, name_of};
+
+    ghost entries = { λ s. s.log };
+
+    ghost name = { name_of };
+
+    ghost gauge = { gauge_of };
+
+    ghost open_calls = { λ s. open_in s };
+
+    ghost event = { IsStep };
+
+    fn chronicle(&self) -> &Chronicle {
+        &self.inner.chronicle
+    }
+}
