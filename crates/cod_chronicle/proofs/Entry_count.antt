@@ -141,7 +141,7 @@ rising n (m ∷ ms) r b =
       climbs ms r (suc k) l = (let h = climbs ms r k (omega arith) in let s = r k (suc k) 0 (omega arith) l in omega arith)
 
 -- the sum of f over the first n numbers
-sum_to : (ℕ → ℕ) → ℕ → ℕ
+pub sum_to : (ℕ → ℕ) → ℕ → ℕ
 sum_to f zero = 0
 sum_to f (suc n) = sum_to f n + f n
 
@@ -150,12 +150,12 @@ unfolding sum_to
 sum_most f k zero h = omega arith
 sum_most f k (suc n) h = (let a = sum_most f k n (λ i l. h i (omega arith)) in let b = h n (omega arith) in omega arith)
 
-sum_mono : (f g : ℕ → ℕ) (n : ℕ) → ((i : ℕ) → f i ≤ g i) → sum_to f n ≤ sum_to g n
+pub sum_mono : (f g : ℕ → ℕ) (n : ℕ) → ((i : ℕ) → f i ≤ g i) → sum_to f n ≤ sum_to g n
 unfolding sum_to
 sum_mono f g zero h = omega arith
 sum_mono f g (suc n) h = (let a = sum_mono f g n h in let b = h n in omega arith)
 
-sum_one : (f g : ℕ → ℕ) (c n : ℕ) → c < n → ((i : ℕ) → f i ≤ g i) → f c + 1 ≤ g c → sum_to f n + 1 ≤ sum_to g n
+pub sum_one : (f g : ℕ → ℕ) (c n : ℕ) → c < n → ((i : ℕ) → f i ≤ g i) → f c + 1 ≤ g c → sum_to f n + 1 ≤ sum_to g n
 unfolding sum_to
 sum_one f g c zero l h one = absurd (omega arith)
 sum_one f g c (suc n) l h one = elim (cases_eq c n) [
@@ -164,7 +164,7 @@ sum_one f g c (suc n) l h one = elim (cases_eq c n) [
 ]
 
 -- the calls, caller by caller
-by_callers : (callers numbers : ℕ) (h : List Entry) → AllByRecursion (CallsBelow callers numbers) h
+pub by_callers : (callers numbers : ℕ) (h : List Entry) → AllByRecursion (CallsBelow callers numbers) h
     → call_count h ≤ sum_to (λ c. length (filter_map (number_by c) h)) callers
 unfolding call_count
 by_callers callers numbers [] a = omega arith

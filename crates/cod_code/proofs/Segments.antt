@@ -112,14 +112,14 @@ data_byte k block j place segment most b h =
     ∙ across_at k block j segment place h
 
 -- the places of a block
-block_length : (xs : List ℕ) (k j block : ℕ) → length xs ≡ k * block → j < k → length (slice_range xs (j * block) (j * block + block)) ≡ block
+pub block_length : (xs : List ℕ) (k j block : ℕ) → length xs ≡ k * block → j < k → length (slice_range xs (j * block) (j * block + block)) ≡ block
 block_length xs k j block long h =
     let from = j * block in
     let fits : suc j * block ≤ k * block = mul-le-mul_right block h in
     let room : from + block ≤ length xs = omega (arith, suc-mul j block) in
     omega (arith, length-take (from + block - from) (drop from xs), length-drop from xs)
 
-block_at : (xs : List ℕ) (from block place : ℕ) → place < block → get_or (slice_range xs from (from + block)) place 0 ≡ get_or xs (from + place) 0
+pub block_at : (xs : List ℕ) (from block place : ℕ) → place < block → get_or (slice_range xs from (from + block)) place 0 ≡ get_or xs (from + place) 0
 block_at xs from block place h =
     let lt : place < from + block - from = omega arith in
     get_or-take (from + block - from) (drop from xs) place 0 lt ∙ get_or-drop from xs place 0

@@ -103,7 +103,7 @@ take_nil zero = refl
 take_nil (suc n) = refl
 
 -- only as many places count as there are bytes
-combination_take_left : (xs ys : List ℕ) → combination xs ys ≡ combination (take (length ys) xs) ys
+pub combination_take_left : (xs ys : List ℕ) → combination xs ys ≡ combination (take (length ys) xs) ys
 unfolding combination
 combination_take_left [] ys = ap (λ (q : List ℕ). combination q ys) (sym (take_nil (length ys)))
 combination_take_left (x ∷ xs) [] = refl

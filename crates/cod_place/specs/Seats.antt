@@ -22,6 +22,9 @@ pub of_front_lem : (of : TableId) (rooms others : List Room) → AreOf of (rooms
 of_front_lem of rooms others came k d small = subst (IsOf of) (get_or_append_left rooms others d k small)
     (came k d (let l = length-append rooms others in omega arith))
 
+pub of_owner_lem : (of : TableId) (room other : Room) → AreOf of (room ∷ other ∷ []) → room.of ≡ other.of
+of_owner_lem of room other came = (came 0 room (omega arith)).0 ∙ sym (came 1 room (omega arith)).0
+
 pub after_self_lem : (s : Seated) → After s s
 after_self_lem s = record { of = refl; bytes = refl; looks = ([], append-nil s.looks) }
 

@@ -1,6 +1,6 @@
 -- Laws of the rooms that came from a store.
-use Rattle.std.specs.Prelude.{◌≡◌, None, ℕ, ◌<◌, nat_eq, if◌then◌else◌, List, [], ◌++◌, length, IsPermutation}
-use Rattle.std.proofs.Common.{arith, subst, length-append}
+use Rattle.std.specs.Prelude.{◌≡◌, None, ℕ, ◌<◌, nat_eq, if◌then◌else◌, List, [], ◌∷◌, ◌++◌, length, IsPermutation}
+use Rattle.std.proofs.Common.{arith, sym, ◌∙◌, subst, length-append}
 use Rattle.std.proofs.lemmas.List.{get_or_append_left}
 use Rattle.std.proofs.lemmas.List.Elements.{All-nil}
 use Rattle.std.proofs.lemmas.List.Sums.{sum_by-append}
@@ -29,3 +29,6 @@ came_front_lem store rooms others came = record {
       (came.plain k d (let l = length-append rooms others in omega arith));
   within = λ node there. let e = sum_by-append (part node) rooms others in let w = came.within node there in omega arith;
 }
+
+pub came_owner_lem : (store : Store) (room other : Room) → CameFrom store (room ∷ other ∷ []) → room.of ≡ other.of
+came_owner_lem store room other came = came.plain 0 room (omega arith) ∙ sym (came.plain 1 room (omega arith))

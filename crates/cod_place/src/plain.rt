@@ -50,9 +50,10 @@ impl PlainPools {
 }
 
 impl Pools for PlainPools {
-    ghost use Rattle.std.specs.Prelude.{◌≡◌, Some, length, slice_index, refl};
+    ghost use Rattle.std.specs.Prelude.{◌≡◌, Some, length, slice_index};
+    ghost use Rattle.std.proofs.Common.{refl, ◌∙◌};
     ghost use Rattle.cod_place.specs.Rooms.{CameFrom};
-    ghost use Rattle.cod_place.specs.Stores.{came_none_lem, came_order_lem, came_front_lem};
+    ghost use Rattle.cod_place.specs.Stores.{came_none_lem, came_order_lem, came_front_lem, came_owner_lem};
 
     ghost nodes = { λ p. length p.free };
 
@@ -66,7 +67,7 @@ impl Pools for PlainPools {
 
     ghost ready = { λ _. Unit {0} };
 
-    ghost same = { λ _ _. Unit {0} };
+    ghost same = { λ p q. (length q.free ≡ length p.free) × (q.capacity ≡ p.capacity) };
 
     fn take(&mut self, node: NodeId, bytes: u32) -> Result<Room, Short> {
         let free = self.free[node.0 as usize];
@@ -92,11 +93,15 @@ impl Pools for PlainPools {
 
     ghost came_front = { came_front_lem };
 
+    ghost came_owner = { came_owner_lem };
+
     ghost seen_earlier = { λ _ _ _ _ _ _ seen. seen };
 
     ghost telling = { λ _ _. refl };
 
-    ghost same_self = { λ _. tt };
+    ghost same_sizes = { λ _ _ same. same };
 
-    ghost same_later = { λ _ _ _ _ _. tt };
+    ghost same_self = { λ _. (refl, refl) };
+
+    ghost same_later = { λ _ _ _ first then_. (then_.0 ∙ first.0, then_.1 ∙ first.1) };
 }

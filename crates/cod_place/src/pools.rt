@@ -84,11 +84,17 @@ pub trait Pools {
     /// Where rooms came, each front of them did.
     ghost came_front: { (p : Self) (rooms others : List Room) → Came p (rooms ++ others) → Came p rooms };
 
+    /// All rooms that came have one owner.
+    ghost came_owner: { (p : Self) (room other : Room) → Came p (room ∷ other ∷ []) → room.of ≡ other.of };
+
     /// What was seen since a state was seen since each earlier one.
     ghost seen_earlier: { (earlier since now : Self) (node bytes : ℕ) → same earlier since → Seen since now node bytes → Seen earlier now node bytes };
 
     /// Whether free bytes are told is a fact of the type.
     ghost telling: { (p q : Self) → is_some (free p) ≡ is_some (free q) };
+
+    /// Pools that borrow the same have as many nodes, each with as many free bytes before any room was taken.
+    ghost same_sizes: { (p q : Self) → same p q → (nodes q ≡ nodes p) × (capacity q ≡ capacity p) };
 
     ghost same_self: { (p : Self) → same p p };
 

@@ -166,7 +166,7 @@ open_same who claims later None e = e
 open_same who claims later (Some r) e = ap (cond (r.caller == who) (Some (r.number, Rebuild))) e
 
 -- who has no rebuild has open what it has claims for
-open_alone : (who : ℕ) (claims : List (Option Claim)) (o : Option Rebuilding) → IsOther who o → open_of who claims o ≡ open_call who claims
+pub open_alone : (who : ℕ) (claims : List (Option Claim)) (o : Option Rebuilding) → IsOther who o → open_of who claims o ≡ open_call who claims
 open_alone who claims None other = refl
 open_alone who claims (Some r) other = ap (λ (b : Bool). cond b (Some (r.number, Rebuild)) (open_call who claims)) (ne_eqb r.caller who other)
 
@@ -237,7 +237,7 @@ others_keep_open w r t after other answered s u (moves i below m) sound is apart
     ap (λ (q : Seg). open_in q other) m.becomes ∙ open_same other s.claims (without_marks i s.claims) s.rebuild (open_each (forgotten i) (forgotten_leaves i) other s.claims)
 
 -- who has no claim, and no rebuild, has nothing open
-nothing : (who : ℕ) (claims : List (Option Claim)) (o : Option Rebuilding) → HasNone who claims → IsOther who o → open_of who claims o ≡ None
+pub nothing : (who : ℕ) (claims : List (Option Claim)) (o : Option Rebuilding) → HasNone who claims → IsOther who o → open_of who claims o ≡ None
 nothing who claims o none other = open_alone who claims o other ∙ opens_none claims who none
 
 none_kept : (f : Option Claim → Option Claim) → f None ≡ None → ((who : ℕ) (o : Option Claim) → is_of who (f o) ≡ is_of who o) → (who : ℕ) (claims : List (Option Claim)) → HasNone who claims

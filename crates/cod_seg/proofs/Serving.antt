@@ -353,7 +353,7 @@ end_where_whole s caller call sound is =
     (record { r = g.r; t = g.t; was = g.was; mine = own_is caller s.rebuild g.r b.own g.was; goal = g.goal }, omega (arith, most, least))
 
 -- a drain's steps, and the answers at once
-abbrev IsMoving : Step → Type 0
+abbrev pub IsMoving : Step → Type 0
 IsMoving step.Drain = Unit {0}
 IsMoving step.Clear = Unit {0}
 IsMoving step.Whole = Unit {0}
@@ -378,13 +378,13 @@ update_no_moving s caller call is = by (has_claim caller s.claims) is where
   by false p = (not_held IsMoving (block_holder s.site.shape call caller s.claims) step.Begin (λ h q. q) p).1
 
 -- what each of them says of a call
-abbrev IsMovingOf : Seg → (caller : ℕ) → Asked → Step → Type 0
+abbrev pub IsMovingOf : Seg → (caller : ℕ) → Asked → Step → Type 0
 IsMovingOf s caller Rebuild x = (downs s.site s.log ≡ []) × (x ≡ step.Whole)
 IsMovingOf s caller (Drain node) x =
     ((is_some (live_on s.site s.log node.0) ≡ true) × (rebuild_holder caller s.rebuild ≡ None) × (x ≡ step.Drain)) ⊎ ((is_some (live_on s.site s.log node.0) ≡ false) × (x ≡ step.Clear))
 IsMovingOf s caller _ x = ⊥
 
-served_moving : (s : Seg) (caller : ℕ) (call : Asked) → IsMoving (next_served s caller call) → IsMovingOf s caller call (next_served s caller call)
+pub served_moving : (s : Seg) (caller : ℕ) (call : Asked) → IsMoving (next_served s caller call) → IsMovingOf s caller call (next_served s caller call)
 served_moving s caller (Read off len) is = is
 served_moving s caller (Write off bytes) is = update_no_moving s caller (Write off bytes) is
 served_moving s caller (Swap off old new) is = update_no_moving s caller (Swap off old new) is
@@ -405,7 +405,7 @@ served_moving s caller (Drain node) is = by (is_some (live_on s.site s.log node.
   by true e p = (let o = (not_held IsMoving (rebuild_holder caller s.rebuild) step.Drain (λ h q. q) p).0 in inl (e, o, ap (λ (x : Option Held). unless_held x step.Drain) o))
   by false e p = inr (e, refl)
 
-moving : (s : Seg) (caller : ℕ) (call : Asked) (x : Step) → IsLater x → IsMoving x → next_step s caller call ≡ x → (is_over s.site s.log ≡ false) × IsMovingOf s caller call x
+pub moving : (s : Seg) (caller : ℕ) (call : Asked) (x : Step) → IsLater x → IsMoving x → next_step s caller call ≡ x → (is_over s.site s.log ≡ false) × IsMovingOf s caller call x
 moving s caller call x later move is =
     let v = served s caller call x later is in
     (v.few, subst (IsMovingOf s caller call) v.is (served_moving s caller call (subst IsMoving (sym v.is) move)))

@@ -1,1 +1,4 @@
-pub mod Answering
+pub mod AtOnce
+pub mod Filling
+pub mod Frail
+pub mod Giving

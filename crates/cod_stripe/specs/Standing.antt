@@ -11,7 +11,7 @@ use Rattle.cod_claims.specs.declared.claim.Claim.{Claim}
 use Rattle.cod_seg.specs.Next.{next_step, open_in}
 use Rattle.cod_seg.specs.Seg.{Col, Rebuilding, Seg, Target}
 use Rattle.cod_seg.specs.Sound.{Sound}
-use Rattle.cod_stripe.specs.Events.{Costs, IsSettingOf, Makes, NoneFails, Swept}
+use Rattle.cod_segment.specs.Events.{Costs, IsSettingOf, Makes, NoneFails, Swept}
 
 abbrev pub bit : Bool → ℕ
 bit true = 1

@@ -1,11 +1,10 @@
 //! One segment over regions that may fail: its columns, its claims, and its chronicle.
 #![tactic(auto)]
 
-mod asking;
-mod inner;
-mod rebuild;
+mod around;
+mod building;
 mod stripe;
-mod tending;
 
-pub use asking::{Around, Asker, Outcome};
+pub use around::Around;
+pub use cod_segment::Outcome;
 pub use stripe::Stripe;

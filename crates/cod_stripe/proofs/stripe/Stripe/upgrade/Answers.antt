@@ -1,43 +1,43 @@
 use Rattle.std.proofs.Common.{◌≡◌, length, true, refl, subst}
 use Rattle.cod_seg.specs.Next.{next_step}
 use Rattle.cod_seg.specs.declared.next.Step.TheVariants as step
-use Rattle.cod_stripe.specs.declared.asking.Asker.{Asker}
-use Rattle.cod_stripe.specs.declared.asking.Outcome.TheVariants.{Answered}
-use Rattle.cod_stripe.specs.Events.{call_in, IsAsked, IsOutcome, Makes, request_of}
+use Rattle.cod_segment.specs.declared.asking.Asker.{Asker}
+use Rattle.cod_segment.specs.declared.asking.Outcome.TheVariants.{Answered}
+use Rattle.cod_segment.specs.Events.{call_in, IsAsked, IsOutcome, Makes, request_of}
 use Rattle.cod_types.specs.declared.call.Reply.TheVariants.{Done}
-use Rattle.cod_stripe.proofs.Answering.{calm_setting, makes_upgrade, outcome, sound_after, upgrade_idle, upgraded}
+use Rattle.cod_segment.proofs.Answering.{calm_setting, makes_upgrade, outcome, sound_after, upgrade_idle, upgraded}
 use Rattle.cod_stripe.proofs.stripe.Stripe.upgrade.Goals as goal
 
 pub upgrade-requires-clause-newest : goal.upgrade-requires-clause-newest
 upgrade-requires-clause-newest g c =
-    let asked : IsAsked c.self.inside.inner c.asker-asker.result.caller.0 c.asker-asker.result.number c.args.slip.now (call_in c.args.slip.now) = rw (c.self.view_is, c.asker-asker.ensures) c.requires.asked in
+    let asked : IsAsked c.self.inside.segment c.asker-asker.result.caller.0 c.asker-asker.result.number c.args.slip.now (call_in c.args.slip.now) = rw (c.self.view_is, c.asker-asker.ensures) c.requires.asked in
     asked.newest
 
 pub returns-clause-makes : goal.returns-clause-makes
 returns-clause-makes g c = λ w setting seen.
-    let asked : IsAsked c.self.inside.inner c.asker-asker.result.caller.0 c.asker-asker.result.number c.args.slip.now (call_in c.args.slip.now) = rw (c.self.view_is, c.asker-asker.ensures) c.requires.asked in
-    let next : next_step c.self.inside.inner c.asker-asker.result.caller.0 (call_in c.args.slip.now) ≡ step.Upgrade = rw (c.self.view_is, c.asker-asker.ensures) c.requires.next in
-    let m = makes_upgrade w c.self.inside.inner c.upgrade.new.self c.asker-asker.result.caller c.asker-asker.result.number c.upgrade.new.clock c.args.around.now.clock.now c.args.slip.now (call_in c.args.slip.now)
+    let asked : IsAsked c.self.inside.segment c.asker-asker.result.caller.0 c.asker-asker.result.number c.args.slip.now (call_in c.args.slip.now) = rw (c.self.view_is, c.asker-asker.ensures) c.requires.asked in
+    let next : next_step c.self.inside.segment c.asker-asker.result.caller.0 (call_in c.args.slip.now) ≡ step.Upgrade = rw (c.self.view_is, c.asker-asker.ensures) c.requires.next in
+    let m = makes_upgrade w c.self.inside.segment c.upgrade.new.self c.asker-asker.result.caller c.asker-asker.result.number c.upgrade.new.clock c.args.around.now.clock.now c.args.slip.now (call_in c.args.slip.now)
     c.self.invariant asked next c.upgrade.ensures.clock c.upgrade.ensures.follows c.upgrade.ensures.becomes in
     rw (← c.self.view_is, c.upgrade.ensures.outcome)
-    (subst (λ (a : Asker). Makes w (request_of a.caller.0 a.number (call_in c.args.slip.now)) c.args.around.now.clock.now c.upgrade.new.clock true c.self.inside.inner c.upgrade.new.self) c.asker-asker.ensures m)
+    (subst (λ (a : Asker). Makes w (request_of a.caller.0 a.number (call_in c.args.slip.now)) c.args.around.now.clock.now c.upgrade.new.clock true c.self.inside.segment c.upgrade.new.self) c.asker-asker.ensures m)
 
 pub invariant_of-self : goal.invariant_of-self
 invariant_of-self g c =
-    let asked : IsAsked c.self.inside.inner c.asker-asker.result.caller.0 c.asker-asker.result.number c.args.slip.now (call_in c.args.slip.now) = rw (c.self.view_is, c.asker-asker.ensures) c.requires.asked in
-    let next : next_step c.self.inside.inner c.asker-asker.result.caller.0 (call_in c.args.slip.now) ≡ step.Upgrade = rw (c.self.view_is, c.asker-asker.ensures) c.requires.next in
-    let m = makes_upgrade (calm_setting c.self.inside.inner) c.self.inside.inner c.upgrade.new.self c.asker-asker.result.caller c.asker-asker.result.number c.upgrade.new.clock c.args.around.now.clock.now c.args.slip.now
+    let asked : IsAsked c.self.inside.segment c.asker-asker.result.caller.0 c.asker-asker.result.number c.args.slip.now (call_in c.args.slip.now) = rw (c.self.view_is, c.asker-asker.ensures) c.requires.asked in
+    let next : next_step c.self.inside.segment c.asker-asker.result.caller.0 (call_in c.args.slip.now) ≡ step.Upgrade = rw (c.self.view_is, c.asker-asker.ensures) c.requires.next in
+    let m = makes_upgrade (calm_setting c.self.inside.segment) c.self.inside.segment c.upgrade.new.self c.asker-asker.result.caller c.asker-asker.result.number c.upgrade.new.clock c.args.around.now.clock.now c.args.slip.now
     (call_in c.args.slip.now) c.self.invariant asked next c.upgrade.ensures.clock c.upgrade.ensures.follows c.upgrade.ensures.becomes in
-    sound_after (calm_setting c.self.inside.inner) (request_of c.asker-asker.result.caller.0 c.asker-asker.result.number (call_in c.args.slip.now)) c.args.around.now.clock.now c.upgrade.new.clock true c.self.inside.inner c.upgrade.new.self
+    sound_after (calm_setting c.self.inside.segment) (request_of c.asker-asker.result.caller.0 c.asker-asker.result.number (call_in c.args.slip.now)) c.args.around.now.clock.now c.upgrade.new.clock true c.self.inside.segment c.upgrade.new.self
     c.self.invariant m
 
 pub returns-clause-outcome : goal.returns-clause-outcome
 returns-clause-outcome g c =
-    let asked : IsAsked c.self.inside.inner c.asker-asker.result.caller.0 c.asker-asker.result.number c.args.slip.now (call_in c.args.slip.now) = rw (c.self.view_is, c.asker-asker.ensures) c.requires.asked in
-    let next : next_step c.self.inside.inner c.asker-asker.result.caller.0 (call_in c.args.slip.now) ≡ step.Upgrade = rw (c.self.view_is, c.asker-asker.ensures) c.requires.next in
-    let up = upgraded c.self.inside.inner c.asker-asker.result.caller.0 (call_in c.args.slip.now) next in
-    let none = upgrade_idle c.self.inside.inner c.asker-asker.result.caller.0 c.asker-asker.result.number c.args.slip.now (call_in c.args.slip.now) up.0 c.self.invariant asked in
-    let o = outcome c.self.inside.inner c.upgrade.new.self c.asker-asker.result.caller c.asker-asker.result.number c.upgrade.new.clock 2 (call_in c.args.slip.now) Done c.upgrade.new.slip none c.upgrade.ensures.becomes
+    let asked : IsAsked c.self.inside.segment c.asker-asker.result.caller.0 c.asker-asker.result.number c.args.slip.now (call_in c.args.slip.now) = rw (c.self.view_is, c.asker-asker.ensures) c.requires.asked in
+    let next : next_step c.self.inside.segment c.asker-asker.result.caller.0 (call_in c.args.slip.now) ≡ step.Upgrade = rw (c.self.view_is, c.asker-asker.ensures) c.requires.next in
+    let up = upgraded c.self.inside.segment c.asker-asker.result.caller.0 (call_in c.args.slip.now) next in
+    let none = upgrade_idle c.self.inside.segment c.asker-asker.result.caller.0 c.asker-asker.result.number c.args.slip.now (call_in c.args.slip.now) up.0 c.self.invariant asked in
+    let o = outcome c.self.inside.segment c.upgrade.new.self c.asker-asker.result.caller c.asker-asker.result.number c.upgrade.new.clock 2 (call_in c.args.slip.now) Done c.upgrade.new.slip none c.upgrade.ensures.becomes
     (rw c.upgrade.ensures.slip refl) in
     rw c.upgrade.ensures.outcome
-    (subst (λ (a : Asker). IsOutcome (Answered (length c.self.inside.inner.log) c.upgrade.new.clock) (request_of a.caller.0 a.number (call_in c.args.slip.now)) c.upgrade.new.clock c.upgrade.new.self c.upgrade.new.slip) c.asker-asker.ensures o)
+    (subst (λ (a : Asker). IsOutcome (Answered (length c.self.inside.segment.log) c.upgrade.new.clock) (request_of a.caller.0 a.number (call_in c.args.slip.now)) c.upgrade.new.clock c.upgrade.new.self c.upgrade.new.slip) c.asker-asker.ensures o)

@@ -9,8 +9,8 @@ ghost use Rattle.cod_chronicle.specs.declared.entry.Cause.TheVariants.{Fault, Ki
 ghost use Rattle.cod_chronicle.specs.declared.entry.Entry.TheVariants.{Call, Down};
 ghost use Rattle.cod_types.specs.Plain.{refusal};
 ghost use Rattle.cod_types.specs.declared.call.Reply.TheVariants.{Done, Lost};
-ghost use Rattle.cod_stripe.specs.Events.{call_in};
-ghost use Rattle.cod_stripe.specs.declared.asking.Outcome.TheVariants.{Answered};
+ghost use Rattle.cod_segment.specs.Events.{call_in};
+ghost use Rattle.cod_segment.specs.declared.asking.Outcome.TheVariants.{Answered};
 
 use crate::asking::{Asker, Outcome};
 use crate::rebuild::Rebuild;
@@ -26,22 +26,22 @@ use std::marker::Model;
 /// A segment: where it is, its chronicle, its columns, how many updates of each block are committed, the claims, the version
 /// of the records that it writes, and the rebuild in progress. `frail` are the nodes on which a region may fail.
 #[derive(Drop)]
-pub struct Inner<R: Region> {
-    pub(crate) shape: Geometry,
-    pub(crate) segment: SegId,
-    pub(crate) nodes: u8,
-    pub(crate) frail: Vec<u8>,
-    pub(crate) chronicle: Chronicle,
-    pub(crate) columns: Columns<R>,
-    pub(crate) cuts: Cuts,
-    pub(crate) claims: Claims,
-    pub(crate) version: u8,
-    pub(crate) rebuild: Option<Rebuild<R>>,
+pub struct Segment<R: Region> {
+    pub shape: Geometry,
+    pub segment: SegId,
+    pub nodes: u8,
+    pub frail: Vec<u8>,
+    pub chronicle: Chronicle,
+    pub columns: Columns<R>,
+    pub cuts: Cuts,
+    pub claims: Claims,
+    pub version: u8,
+    pub rebuild: Option<Rebuild<R>>,
 }
 
-impl<R: Region> Model for Inner<R> {
+impl<R: Region> Model for Segment<R> {
     ghost use Rattle.cod_seg.specs.Seg.{Seg};
-    ghost use Rattle.cod_stripe.specs.Views.{pools_by, told_by};
+    ghost use Rattle.cod_segment.specs.Views.{pools_by, told_by};
 
     ghost Value = { Seg };
 
@@ -58,7 +58,7 @@ impl<R: Region> Model for Inner<R> {
     } };
 }
 
-impl<R: Region> Inner<R> {
+impl<R: Region> Segment<R> {
     /// The rebuild in progress as a next step sees it.
     fn job(&self) -> Option<Job>
         ensures { result ≡ option_map job_in self.now.rebuild }
@@ -70,7 +70,7 @@ impl<R: Region> Inner<R> {
     }
 
     /// The segment as a next step sees it.
-    pub(crate) fn scene(&self) -> Scene<'_>
+    pub fn scene(&self) -> Scene<'_>
         ensures { Shows result.shape result.live result.claims.now result.job self.now }
     {
         Scene {
@@ -82,7 +82,7 @@ impl<R: Region> Inner<R> {
     }
 
     /// Whether more columns are down than the code makes up for.
-    pub(crate) fn is_lost(&self) -> bool
+    pub fn is_lost(&self) -> bool
         requires { Sound self.now }
         ensures { result ≡ is_over self.now.site self.now.log }
     {
@@ -90,7 +90,7 @@ impl<R: Region> Inner<R> {
     }
 
     /// The stamp of the next entry, which becomes the caller's clock.
-    pub(crate) fn next_stamp(&self, clock: &mut u64) -> u64
+    pub fn next_stamp(&self, clock: &mut u64) -> u64
         ensures stamp { result ≡ next_stamp (clock_of self.now.log) clock.old }
         ensures clock { clock.new ≡ result }
         ensures follows { StampFollows self.now.log result }
@@ -110,6 +110,7 @@ impl<R: Region> Inner<R> {
           log = self.old.log ++ Down clock.new col (col_at self.old.cols col).room.node cause ∷ [];
         } }
         ensures clock { clock.new ≡ next_stamp (clock_of self.old.log) clock.old }
+        ensures follows { StampFollows self.old.log clock.new }
     {
         let stamp = self.next_stamp(clock);
         let node = self.columns.node(col);
@@ -126,7 +127,7 @@ impl<R: Region> Inner<R> {
     }
 
     /// A column whose region failed goes down.
-    pub(crate) fn mark_fault(&mut self, failed: ColumnFailed, clock: &mut u64)
+    pub fn mark_fault(&mut self, failed: ColumnFailed, clock: &mut u64)
         requires col { failed.col < length self.old.cols }
         requires up { (col_at self.old.cols failed.col).is_up ≡ true }
         requires room { length self.old.log + 1 < 2 ^ 63 }
@@ -135,12 +136,13 @@ impl<R: Region> Inner<R> {
           log = self.old.log ++ Down clock.new failed.col (col_at self.old.cols failed.col).room.node (Fault failed.count) ∷ [];
         } }
         ensures clock { clock.new ≡ next_stamp (clock_of self.old.log) clock.old }
+        ensures follows { StampFollows self.old.log clock.new }
     {
         self.mark(failed.col, Cause::Fault(failed.count), clock);
     }
 
     /// A column whose node was killed goes down. Its mark stands after what the killer knew of.
-    pub(crate) fn mark_killed(&mut self, col: u8, kill: Kill, clock: &mut u64)
+    pub fn mark_killed(&mut self, col: u8, kill: Kill, clock: &mut u64)
         requires col { col < length self.old.cols }
         requires up { (col_at self.old.cols col).is_up ≡ true }
         requires room { length self.old.log + 1 < 2 ^ 63 }
@@ -149,13 +151,14 @@ impl<R: Region> Inner<R> {
           log = self.old.log ++ Down clock.new col (col_at self.old.cols col).room.node (Killed kill.line) ∷ [];
         } }
         ensures clock { clock.new ≡ next_stamp (clock_of self.old.log) (max clock.old kill.clock) }
+        ensures follows { StampFollows self.old.log clock.new }
     {
         *clock = (*clock).max(kill.clock as u64);
         self.mark(col, Cause::Killed(kill.line), clock);
     }
 
     /// Answers the call: one reply goes into its entry, the same once more to the caller.
-    pub(crate) fn answer(
+    pub fn answer(
         &mut self,
         slip: &mut Slip,
         asker: Asker,
@@ -193,7 +196,7 @@ impl<R: Region> Inner<R> {
     }
 
     /// The refusal that a call's own numbers give it.
-    pub(crate) fn refusal_of(&self, slip: &Slip) -> Reply
+    pub fn refusal_of(&self, slip: &Slip) -> Reply
         requires call { IsSome slip.now.call }
         requires refused { IsSome (refusal self.now.site.shape (call_in slip.now)) }
         ensures { refusal self.now.site.shape (call_in slip.now) ≡ Some result }
@@ -205,7 +208,7 @@ impl<R: Region> Inner<R> {
     }
 
     /// Answers that too many columns are down.
-    pub(crate) fn answer_lost(&mut self, slip: &mut Slip, asker: Asker, clock: &mut u64) -> Outcome
+    pub fn answer_lost(&mut self, slip: &mut Slip, asker: Asker, clock: &mut u64) -> Outcome
         requires call { IsSome slip.old.call }
         requires link { 0 < slip.old.links }
         requires unanswered { slip.old.reply ≡ None }
@@ -221,7 +224,7 @@ impl<R: Region> Inner<R> {
     }
 
     /// Answers that the call is done, or lost where too many columns are down by now.
-    pub(crate) fn answer_done(&mut self, slip: &mut Slip, asker: Asker, clock: &mut u64) -> Outcome
+    pub fn answer_done(&mut self, slip: &mut Slip, asker: Asker, clock: &mut u64) -> Outcome
         requires sound { Sound self.old }
         requires call { IsSome slip.old.call }
         requires link { 0 < slip.old.links }

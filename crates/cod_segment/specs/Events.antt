@@ -1,5 +1,5 @@
 -- The events of a segment, as they are promised.
-use Rattle.std.specs.Prelude.{◌≡◌, ◌⊎◌, ℕ, ◌+◌, ◌<◌, ◌^◌, IsTrue, unwrap_or, Bool, true, false, List, [], ◌∷◌, ◌++◌, length, map, Option, Some, None, option_map, All}
+use Rattle.std.specs.Prelude.{◌≡◌, ◌≢◌, ◌⊎◌, ℕ, ◌+◌, ◌<◌, ◌^◌, IsTrue, unwrap_or, Bool, true, false, List, [], ◌∷◌, ◌++◌, length, map, slice_index, slice_set, Option, Some, None, option_map, All}
 use Rattle.std.specs.List.{range_with_len}
 use Rattle.cod_types.specs.Faults.{grown}
 use Rattle.cod_types.specs.declared.call.Call.{Call as Asked}
@@ -16,15 +16,17 @@ use Rattle.cod_claims.specs.Slips.{Paper, prepared}
 use Rattle.cod_board.specs.declared.kill.Kill.{Kill as Killed}
 use Rattle.cod_board.specs.Kills.{kill_of}
 use Rattle.cod_place.specs.Room.{Room}
-use Rattle.cod_seg.specs.Calls.{column_costs, Cost, costs_on}
+use Rattle.cod_place.specs.Rooms.{bytes_on}
+use Rattle.cod_seg.specs.Calls.{column_costs, Cost, costs_on, drained, nothing}
 use Rattle.cod_seg.specs.Happens.{Happened}
 use Rattle.cod_seg.specs.Next.{open_in}
 use Rattle.cod_seg.specs.Seg.{Col, col_at, Rebuilding, Seg, Target}
 use Rattle.cod_seg.specs.Sound.{is_frail}
 use Rattle.cod_seg.specs.Steps.{Goes}
 use Rattle.cod_seg.specs.declared.next.Step.{Step}
-use Rattle.cod_stripe.specs.declared.asking.Outcome.{Outcome}
-use Rattle.cod_stripe.specs.declared.asking.Outcome.TheVariants.{Moved, Answered, Held}
+use Rattle.cod_seg.specs.declared.next.Step.TheVariants as step
+use Rattle.cod_segment.specs.declared.asking.Outcome.{Outcome}
+use Rattle.cod_segment.specs.declared.asking.Outcome.TheVariants.{Moved, Answered, Held}
 
 -- ---- what an event is asked
 
@@ -51,12 +53,22 @@ abbrev pub goal_rooms : Option Target → List Room
 goal_rooms None = []
 goal_rooms (Some t) = t.room ∷ []
 
+-- the broken nodes, and the target's, with its count of faults
+abbrev pub broken_with : Option Target → List (Option ℕ) → List (Option ℕ)
+broken_with None broken = broken
+broken_with (Some t) broken = slice_set broken t.room.node.0 (Some t.device.faults)
+
 abbrev pub rebuild_rooms : Option Rebuilding → List Room
 rebuild_rooms None = []
 rebuild_rooms (Some r) = goal_rooms r.target
 
 abbrev pub rooms_of : Seg → List Room
 rooms_of s = rebuild_rooms s.rebuild ++ map (λ (c : Col). c.room) s.cols
+
+-- What is free and what these rooms take is on each node what it was, where free bytes are told.
+abbrev pub Balances : (before after : Option (List ℕ)) (old new : List Room) → Type 0
+Balances before after old new = (f : List ℕ) → before ≡ Some f → (g : List ℕ) × (after ≡ Some g) × (length g ≡ length f)
+    × ((node : ℕ) → node < length f → slice_index g node + bytes_on node new ≡ slice_index f node + bytes_on node old)
 
 -- there is room for so many entries more
 abbrev pub HasRoom : (more : ℕ) → Seg → Type 0
@@ -109,11 +121,17 @@ abbrev pub CountsRebuild : Seg → (caller : ℕ) → Step → (old new : Option
 CountsRebuild s caller next (Some r) (Some q) = (t : Target) → r.target ≡ Some t → CountsTarget (costs_on s caller r.col next t) r.target q.target
 CountsRebuild s caller next _ _ = Unit {0}
 
+-- A column's region that stays was read and written just so often. One that a drain leaves in its place was only read: how often, the
+-- places tell that were tried.
+abbrev pub CountsColumn : Seg → Asked → Step → (i : ℕ) → (old new : Device) → Type 0
+CountsColumn s call step.Drain i old new = (drained s call ≢ Some i → Counts nothing old new) × (new.writes ≡ old.writes)
+CountsColumn s call next i old new = Counts (column_costs s call next i) old new
+
 -- Where no column goes down in the event, each column's region, but that of one that comes to another place, was read and written just
 -- so often; and a target that stays.
 pub record Costs (s : Seg) (caller : ℕ) (call : Asked) (next : Step) (u : Seg) : Type 0 where
   pub columns : (i : ℕ) → i < s.site.shape.n → (col_at u.cols i).room.node ≡ (col_at s.cols i).room.node
-      → Counts (column_costs s call next i) (col_at s.cols i).state.device (col_at u.cols i).state.device
+      → CountsColumn s call next i (col_at s.cols i).state.device (col_at u.cols i).state.device
   pub target : CountsRebuild s caller next s.rebuild u.rebuild
 
 abbrev pub NoneFails : (s u : Seg) → Type 0

@@ -4,18 +4,18 @@ ghost use Rattle.std.specs.Prelude.{◌≡◌, ◌+◌, ◌-◌, ◌<◌, ◌^�
 ghost use Rattle.cod_types.specs.declared.call.Reply.TheVariants.{Done};
 ghost use Rattle.cod_chronicle.specs.Said.{clock_of, next_stamp, numbers_by, StampFollows};
 ghost use Rattle.cod_chronicle.specs.declared.entry.Entry.TheVariants.{Call};
-ghost use Rattle.cod_stripe.specs.Events.{call_in};
-ghost use Rattle.cod_stripe.specs.declared.asking.Outcome.TheVariants.{Answered};
+ghost use Rattle.cod_segment.specs.Events.{call_in};
+ghost use Rattle.cod_segment.specs.declared.asking.Outcome.TheVariants.{Answered};
 
 use crate::asking::{Asker, Outcome};
-use crate::inner::Inner;
+use crate::segment::Segment;
 use cod_claims::Slip;
 use cod_region::Region;
 use cod_types::Reply;
 
-impl<R: Region> Inner<R> {
+impl<R: Region> Segment<R> {
     /// From now on records are written in version 2.
-    pub(crate) fn upgrade(&mut self, slip: &mut Slip, asker: Asker, clock: &mut u64) -> Outcome
+    pub fn upgrade(&mut self, slip: &mut Slip, asker: Asker, clock: &mut u64) -> Outcome
         requires call { IsSome slip.old.call }
         requires link { 0 < slip.old.links }
         requires unanswered { slip.old.reply ≡ None }

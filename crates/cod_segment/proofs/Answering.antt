@@ -32,8 +32,8 @@ use Rattle.cod_seg.proofs.Keeping.{of_each}
 use Rattle.cod_chronicle.specs.Said.{downs}
 use Rattle.cod_chronicle.specs.Laws.{quiet_reply}
 use Rattle.cod_chronicle.proofs.Answering.{answer_refused, answers_quietly}
-use Rattle.cod_stripe.specs.declared.asking.Outcome.TheVariants.{Answered}
-use Rattle.cod_stripe.specs.Events.{HasBegun, IsAsked, IsOutcome, Makes, request_of}
+use Rattle.cod_segment.specs.declared.asking.Outcome.TheVariants.{Answered}
+use Rattle.cod_segment.specs.Events.{HasBegun, IsAsked, IsOutcome, Makes, request_of}
 
 -- ---- who has nothing open
 

@@ -1,22 +1,15 @@
-//! What an event is lent, and what it answers.
+//! What an event is lent.
 
 ghost use Rattle.std.specs.Prelude.{◌≡◌};
 
 use cod_board::Board;
-use cod_claims::Held;
 use cod_place::Pools;
 use cod_predict::{Policy, Rule};
 use cod_region::Shelf;
 use cod_repair::Bench;
+use cod_segment::Asker;
 use cod_types::Caller;
 use std::alloc::Global;
-
-/// A caller, with the number of its call.
-#[derive(Clone, Copy, Debug, PartialEq, Eq)]
-pub struct Asker {
-    pub caller: Caller,
-    pub number: u32,
-}
 
 /// What an event of a segment works with: the board, the pools and the shelf of its nodes, the rule of its reserved space, a
 /// bench that was made for its geometry, and the caller with the number of its call and its clock.
@@ -43,15 +36,4 @@ impl<'a, B: Board, P: Pools, H: Shelf, W: Rule> Around<'a, B, P, H, W> {
             number: self.number,
         }
     }
-}
-
-/// What came of an event.
-#[derive(Clone, Copy, Debug, PartialEq, Eq)]
-pub enum Outcome {
-    /// The call goes on with another event.
-    Moved,
-    /// The call was answered, by the entry at this place of the chronicle.
-    Answered { position: u64, stamp: u64 },
-    /// The call waits for this call of another caller.
-    Held(Held),
 }

@@ -1,0 +1,4 @@
+pub mod Advancing
+pub mod Events
+pub mod Exact
+pub mod Views
