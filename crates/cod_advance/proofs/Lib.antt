@@ -1,0 +1,12 @@
+pub mod Staying
+pub mod Coming
+pub mod Serving
+pub mod Counting
+pub mod Easing
+pub mod Bringing
+pub mod Falling
+pub mod Working
+pub mod Worldly
+pub mod Totalling
+pub mod Lining
+pub mod Slipping

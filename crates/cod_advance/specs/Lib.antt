@@ -1,0 +1,4 @@
+pub mod Served
+pub mod Work
+pub mod Worlds
+pub mod Moments

@@ -1,0 +1,3 @@
+pub mod Aiming
+pub mod Choices
+pub mod Finding
