@@ -146,7 +146,7 @@ module _ (x : Course) (who : ℕ) (board : Board) (o : Outcome) (segs : List Seg
     (scenario : IsScenario x.script) (m : IsMoment x segs board old) where
   turned : IsServed (setting x (world_of segs board old) h.seg.0) (request_of who h.number h.call) (old.clock who) (new.clock who) (turned_by o) (seg_at segs h.seg.0) h.now
   turned = event_is_turn (setting x (world_of segs board old) h.seg.0) (request_of who h.number h.call) (old.clock who) (new.clock who) o (seg_at segs h.seg.0) h.now
-      (happened x who board o segs old later new m.are h)
+      (happened x who board o segs old later new m.are h) (λ y. refl)
 
   at_here : seg_at later h.seg.0 ≡ h.now
   at_here = here x who board o segs old later new m.are h

@@ -3,7 +3,7 @@ use Rattle.std.proofs.Common.{◌≡◌, ℕ, Bool, true, false, Some, List, [],
 use Rattle.std.specs.Prelude.{is_some}
 use Rattle.std.specs.List.{AllByRecursion}
 use Rattle.std.proofs.lemmas.Bool.{both_ways}
-use Rattle.std.proofs.lemmas.List.{append-nil}
+use Rattle.std.proofs.lemmas.List.{append-nil, append_assoc}
 use Rattle.cod_types.specs.declared.call.Call.{Call as Asked}
 use Rattle.cod_types.specs.declared.call.Call.TheVariants.{Rebuild, Drain}
 use Rattle.cod_types.specs.declared.call.Reply.TheVariants.{Rebuilt, Shifted}
@@ -11,7 +11,7 @@ use Rattle.cod_chronicle.specs.declared.entry.Entry.{Entry}
 use Rattle.cod_chronicle.specs.declared.entry.Entry.TheVariants.{Call, Down, Up, Move}
 use Rattle.cod_chronicle.specs.declared.entry.Cause.TheVariants.{Killed, Fault}
 use Rattle.cod_chronicle.specs.Adding.{StaysOff}
-use Rattle.cod_chronicle.specs.Event.{IsSwept, Kills, Request, Setting, Tells}
+use Rattle.cod_chronicle.specs.Event.{Event, IsSwept, Kills, Request, Setting, Tells}
 use Rattle.cod_chronicle.specs.Legal.{IsNext, LegalAfter, node_id}
 use Rattle.cod_chronicle.specs.Said.{is_down, node_of, Site}
 use Rattle.cod_chronicle.specs.Sweep.{Sweeps, TellsThen}
@@ -55,22 +55,26 @@ staying_off kills ((Down stamp col node cause) ∷ es) all = (tt, staying_off ki
 staying_off kills ((Up stamp col node) ∷ es) all = absurd all.0
 staying_off kills ((Move stamp col node) ∷ es) all = absurd all.0
 
--- A sweep leaves each column down whose node was known as killed.
-pub swept_down : (w : Setting) (r : Request) (h : List Entry) (t : ℕ) (marks : List Entry) (clock : ℕ) → Sweeps w h t (range_with_len 0 w.site.shape.n) marks clock
-    → IsSwept w.known w.site (h ++ marks)
-swept_down w r h t marks clock sweeps =
-    (proceeds_is_event w r h t marks clock false false (record {
-      swept = marks;
-      clock = clock;
-      rest = [];
-      are = sym (append-nil marks);
-      sweeps = sweeps;
-      waits = λ e. refl;
-      tells = refl;
-      stamped = refl;
-      legal = tt;
-      off = tt;
-    })).swept
+-- A sweep by itself is an event: it leaves each column down whose node was known as killed.
+pub swept_event : (w : Setting) (r : Request) (h : List Entry) (t : ℕ) (marks : List Entry) (clock : ℕ) → Sweeps w h t (range_with_len 0 w.site.shape.n) marks clock
+    → Event w r h t marks clock false
+swept_event w r h t marks clock sweeps = proceeds_is_event w r h t marks clock false false (record {
+  swept = marks;
+  clock = clock;
+  rest = [];
+  are = sym (append-nil marks);
+  sweeps = sweeps;
+  waits = λ e. refl;
+  tells = refl;
+  stamped = refl;
+  legal = tt;
+  off = tt;
+})
+
+-- and what comes then keeps them down
+pub swept_then : (w : Setting) (h es : List Entry) → AllByRecursion (StaysOff w.known) es → IsSwept w.known w.site h → IsSwept w.known w.site (h ++ es)
+swept_then w h [] off s = subst (IsSwept w.known w.site) (sym (append-nil h)) s
+swept_then w h (e ∷ es) off s = subst (IsSwept w.known w.site) (append_assoc h (e ∷ []) es) (swept_then w (h ++ e ∷ []) es off.1 (keeps_swept w.known w.site h e s off.0))
 
 -- Behind a sweep no column's node is found killed.
 pub told_then : (w : Setting) (r : Request) (h es : List Entry) (answered : Bool) → ((x : ℕ) → w.known x ≡ w.seen x) → IsSwept w.known w.site h

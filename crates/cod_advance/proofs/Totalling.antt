@@ -1,5 +1,5 @@
 -- The work of all segments of a run.
-use Rattle.std.proofs.Common.{◌≡◌, inl, inr, ℕ, ◌*◌, ◌<◌, ◌≤◌, List, length, sym, ap, subst, arith}
+use Rattle.std.proofs.Common.{◌≡◌, inl, inr, ℕ, ◌*◌, ◌<◌, ◌≤◌, List, length, refl, sym, ap, subst, arith}
 use Rattle.std.proofs.lemmas.Bool.{cases_eq}
 use Rattle.cod_chronicle.specs.Event.{Kills as Board}
 use Rattle.cod_chronicle.specs.Said.{Site}
@@ -39,7 +39,7 @@ module _ (x : Course) (who : ℕ) (board : Board) (o : Outcome) (segs : List Seg
   one : IsProgress (most_at (seg_at segs h.seg.0).site (length x.script.clients)) (turned_by o) (work h.seg.0) (after h.seg.0)
   one =
       let e = event_is_progress (setting x (world_of segs board old) h.seg.0) (request_of who h.number h.call) (old.clock who) (new.clock who) (length x.script.clients) o (seg_at segs h.seg.0) h.now
-      (happened x who board o segs old later new are h) among in
+      (happened x who board o segs old later new are h) (λ y. refl) among in
       subst (λ (q : Seg). IsProgress (most_at (seg_at segs h.seg.0).site (length x.script.clients)) (turned_by o) (work h.seg.0) (work_at board (length x.script.clients) q))
       (sym (here x who board o segs old later new are h)) e
 

@@ -340,13 +340,13 @@ module _ (w : Setting) (r : Request) (t after clients : ℕ) (s mid u : Seg) (is
 -- ---- the laws
 
 pub moving_lessens : MovingLessens
-moving_lessens w r t after clients s u e among =
+moving_lessens w r t after clients s u e calm among =
     let a = e.turns.advances in
     let first = made w r t a.clock false s a.mid e.setting.site e.sound a.sweeps in
     let second = made w r a.clock after false a.mid u (e.setting.site ∙ sym first.site) first.sound a.follows.0 in
     let site : a.mid.site ≡ s.site = first.site in
     let is : IsStep w r a.clock after s a.mid u = record {
-      calm = e.calm;
+      calm = calm;
       before = e.sound;
       sound = first.sound;
       old = e.old;
@@ -356,7 +356,7 @@ moving_lessens w r t after clients s u e among =
       opens = e.advanced.0;
     } in
     let less = step_lessens w r a.clock after clients s a.mid u is among (next_step a.mid r.caller r.call) refl e.turns.exact in
-    let no_more = swept_less w clients s a.mid e.calm (made_falls w r t a.clock s a.mid e.sound first) e.turns.sweeps in
+    let no_more = swept_less w clients s a.mid calm (made_falls w r t a.clock s a.mid e.sound first) e.turns.sweeps in
     let here : GoesOn (pieces_in s.site.shape.block) (shown w.known clients s.site a.mid.cols a.mid.claims a.mid.rebuild) (shown w.known clients s.site u.cols u.claims u.rebuild) =
     subst (λ (q : Site). GoesOn (pieces_in q.shape.block) (shown w.known clients q a.mid.cols a.mid.claims a.mid.rebuild) (shown w.known clients q u.cols u.claims u.rebuild)) site less in
     subst (GoesOn (pieces_in s.site.shape.block) (progress_of w.known clients s)) (shown_is w.known clients s u (second.site ∙ first.site))
@@ -364,10 +364,10 @@ moving_lessens w r t after clients s u e among =
     (shown w.known clients s.site u.cols u.claims u.rebuild) no_more here)
 
 pub holding_adds_none : HoldingAddsNone
-holding_adds_none w r t after clients h s u e =
+holding_adds_none w r t after clients h s u e calm =
     let a = e.turns.advances in
     let first = made w r t a.clock false s a.mid e.setting.site e.sound a.sweeps in
-    let no_more = swept_less w clients s a.mid e.calm (made_falls w r t a.clock s a.mid e.sound first) e.turns.sweeps in
+    let no_more = swept_less w clients s a.mid calm (made_falls w r t a.clock s a.mid e.sound first) e.turns.sweeps in
     let shown_here = shown_is w.known clients s a.mid first.site in
     let less : work_of (pieces_in s.site.shape.block) (progress_of w.known clients a.mid) ≤ work_at w.known clients s =
     subst (λ (p : Progress). work_of (pieces_in s.site.shape.block) p ≤ work_at w.known clients s) shown_here
@@ -377,11 +377,11 @@ holding_adds_none w r t after clients h s u e =
     subst (λ (x : Seg). work_at w.known clients x ≤ work_at w.known clients s) (sym a.follows.1) at_mid
 
 pub event_is_progress : EventIsProgress
-event_is_progress w r t after clients outcome.Moved s u e among =
-    let served = event_is_turn w r t after outcome.Moved s u e in
-    let less = going_on_is_less (pieces_in s.site.shape.block) (progress_of w.known clients s) (progress_of w.known clients u) (moving_lessens w r t after clients s u e among) in
+event_is_progress w r t after clients outcome.Moved s u e calm among =
+    let served = event_is_turn w r t after outcome.Moved s u e calm in
+    let less = going_on_is_less (pieces_in s.site.shape.block) (progress_of w.known clients s) (progress_of w.known clients u) (moving_lessens w r t after clients s u e calm among) in
     subst (λ (q : Site). work_of (pieces_in q.shape.block) (progress_of w.known clients u) < work_at w.known clients s) (sym served.site) less
-event_is_progress w r t after clients (outcome.Held h) s u e among = holding_adds_none w r t after clients h s u e
-event_is_progress w r t after clients (outcome.Answered position stamp) s u e among =
-    let served = event_is_turn w r t after (outcome.Answered position stamp) s u e in
+event_is_progress w r t after clients (outcome.Held h) s u e calm among = holding_adds_none w r t after clients h s u e calm
+event_is_progress w r t after clients (outcome.Answered position stamp) s u e calm among =
+    let served = event_is_turn w r t after (outcome.Answered position stamp) s u e calm in
     subst (λ (q : Site). work_at w.known clients u ≤ most_at q clients) served.site (work_is_bounded w.known clients u served.sound)

@@ -14,12 +14,13 @@ use Rattle.cod_seg.specs.Next.{open_in}
 use Rattle.cod_seg.specs.Seg.{Seg}
 use Rattle.cod_seg.specs.Sound.{is_frail}
 use Rattle.cod_seg.specs.Start.{IsNew}
+use Rattle.cod_seg.proofs.Starting.{new_is_sound}
 use Rattle.cod_segment.specs.declared.asking.Outcome.{Outcome}
 use Rattle.cod_segment.specs.declared.asking.Outcome.TheVariants as outcome
 use Rattle.cod_segment.specs.Events.{kills_at, request_of}
 use Rattle.cod_turns.specs.Turns.{Comes, Course, kept, killed, request_of as asking, Serves, setting, start, Turn, World}
 use Rattle.cod_advance.specs.Served.{IsEvent, IsServed, turned_by}
-use Rattle.cod_advance.specs.Worlds.{AreSegmentsOf, EndingIsTurn, FailingIsTurn, HasServed, IsSegmentOf, no_seg, Places, seg_at, ServingIsTurn, ServingKeeps, SettingIsSegments, StartIsStart, world_of}
+use Rattle.cod_advance.specs.Worlds.{AreSegmentsOf, EndingIsTurn, FailingIsTurn, HasServed, IsSegmentOf, NewAreSegments, no_seg, Places, seg_at, ServingIsTurn, ServingKeeps, SettingIsSegments, StartIsStart, world_of}
 use Rattle.cod_advance.proofs.Serving.{event_is_turn}
 
 -- ---- at first
@@ -52,6 +53,12 @@ start_is_start segs board places is =
     ])))
     (fun_ext is.board_is) (fun_ext is.next_is) (fun_ext is.clock_is)
 
+pub new_are_segments : NewAreSegments
+new_are_segments x segs count new = record {
+  count = count;
+  each = λ i lt. (let n = new i lt in record { sound = new_is_sound (seg_at segs i) n.new; site = n.site; may = n.may });
+}
+
 -- ---- one segment of many
 
 pub setting_is_segments : SettingIsSegments
@@ -71,7 +78,6 @@ module _ (x : Course) (who : ℕ) (board : Board) (o : Outcome) (segs : List Seg
     new = h.slip_after;
     sound = (are.each h.seg.0 h.there).sound;
     setting = setting_is_segments x segs board old h.seg.0 are h.there;
-    calm = λ y. refl;
     asked = h.asked;
     turns = h.turns;
     advanced = h.advanced;
@@ -79,7 +85,7 @@ module _ (x : Course) (who : ℕ) (board : Board) (o : Outcome) (segs : List Seg
 
   served : IsServed w (asking who h.at.front h.call) (old.clock who) (new.clock who) (turned_by o) (seg_at segs h.seg.0) h.now
   served = subst (λ (n : ℕ). IsServed w (request_of who n h.call) (old.clock who) (new.clock who) (turned_by o) (seg_at segs h.seg.0) h.now) h.number_is
-      (event_is_turn w r (old.clock who) (new.clock who) o (seg_at segs h.seg.0) h.now happened)
+      (event_is_turn w r (old.clock who) (new.clock who) o (seg_at segs h.seg.0) h.now happened (λ y. refl))
 
   pub here : seg_at later h.seg.0 ≡ h.now
   here = ap (λ (l : List Seg). seg_at l h.seg.0) h.becomes ∙ get_or-set_same segs h.seg.0 h.now no_seg h.there

@@ -14,7 +14,7 @@ use Rattle.cod_segment.specs.declared.asking.Outcome.TheVariants as outcome
 use Rattle.cod_segment.specs.Exact.{fault_at}
 use Rattle.cod_turns.specs.Progress.{GoesOn, idle_weight, most_todo, Progress, total, work_of}
 use Rattle.cod_turns.specs.Rounds.{IsProgress}
-use Rattle.cod_advance.specs.Served.{IsEvent, turned_by}
+use Rattle.cod_advance.specs.Served.{IsCalm, IsEvent, turned_by}
 
 -- so many bytes are so many pieces of 4096 bytes, of which the last may be shorter
 abbrev pub pieces_in : (bytes : ℕ) → ℕ
@@ -98,12 +98,12 @@ most_at site clients = most_work site.shape.n clients site.nodes (pieces_in site
 
 -- an event that goes on with a call of one of the clients leaves less to do
 abbrev pub MovingLessens : Type 0
-MovingLessens = (w : Setting) (r : Request) (t after clients : ℕ) (s u : Seg) → IsEvent w r t after outcome.Moved s u → r.caller < clients
+MovingLessens = (w : Setting) (r : Request) (t after clients : ℕ) (s u : Seg) → IsEvent w r t after outcome.Moved s u → IsCalm w → r.caller < clients
     → GoesOn (pieces_in s.site.shape.block) (progress_of w.known clients s) (progress_of w.known clients u)
 
 -- where the call is held there is no more than before
 abbrev pub HoldingAddsNone : Type 0
-HoldingAddsNone = (w : Setting) (r : Request) (t after clients : ℕ) (h : Held) (s u : Seg) → IsEvent w r t after (outcome.Held h) s u
+HoldingAddsNone = (w : Setting) (r : Request) (t after clients : ℕ) (h : Held) (s u : Seg) → IsEvent w r t after (outcome.Held h) s u → IsCalm w
     → work_at w.known clients u ≤ work_at w.known clients s
 
 -- whatever comes of calls and of kills
@@ -113,5 +113,5 @@ WorkIsBounded = (kills : Kills) (clients : ℕ) (s : Seg) → Sound s → work_a
 -- So a turn's event does to the work what makes rounds end.
 abbrev pub EventIsProgress : Type 0
 EventIsProgress = (w : Setting) (r : Request) (t after clients : ℕ) (outcome : Outcome) (s u : Seg) → IsEvent w r t after outcome s u
-    → r.caller < clients
+    → IsCalm w → r.caller < clients
     → IsProgress (most_at s.site clients) (turned_by outcome) (work_at w.known clients s) (work_at w.known clients u)

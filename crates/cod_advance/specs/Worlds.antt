@@ -79,6 +79,16 @@ SettingIsSegments = (x : Course) (segs : List Seg) (board : Board) (places : Pla
 
 -- ---- at first
 
+-- a new segment of a course
+pub record IsNewOf (x : Course) (i : ℕ) (s : Seg) : Type 0 where
+  pub new : IsNew s
+  pub site : s.site ≡ site_as x.told x.script.shape x.script.nodes i
+  pub may : (node : ℕ) → is_frail s.frail node ≡ true → IsTrue (x.may node)
+
+abbrev pub NewAreSegments : Type 0
+NewAreSegments = (x : Course) (segs : List Seg) → length segs ≡ length x.script.segments
+    → ((i : ℕ) → i < length segs → IsNewOf x i (seg_at segs i)) → AreSegmentsOf x segs
+
 -- each segment is new, no node is killed, and each client is at its first line, with the clock 0
 pub record IsAtFirst (segs : List Seg) (board : Board) (places : Places) : Type 0 where
   pub new : (i : ℕ) → i < length segs → IsNew (seg_at segs i)

@@ -1,10 +1,15 @@
 //! A run's segments as a world of turns. These functions do nothing: their clauses are laws.
 ghost use Rattle.cod_advance.specs.Worlds.{AllWorkIsBounded, EndingIsTurn, FailingIsTurn, ServingIsProgress, ServingIsTurn, ServingKeeps, SettingIsSegments};
-ghost use Rattle.cod_advance.specs.Worlds.{StartIsStart};
+ghost use Rattle.cod_advance.specs.Worlds.{NewAreSegments, StartIsStart};
 
 /// A turn with a segment goes on at that segment's site.
 pub fn setting_is_segments()
     ensures { SettingIsSegments }
+{}
+
+/// New segments at the course's sites are segments of the course.
+pub fn new_are_segments()
+    ensures { NewAreSegments }
 {}
 
 /// New segments, with no node killed and each client at its first line, are the start of a run.

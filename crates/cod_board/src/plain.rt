@@ -63,7 +63,8 @@ impl PlainBoard {
 }
 
 impl Board for PlainBoard {
-    ghost use Rattle.std.specs.Prelude.{true};
+    ghost use Rattle.std.specs.Prelude.{◌≡◌, true};
+    ghost use Rattle.std.proofs.Common.{refl, ◌∙◌};
 
     ghost kills = { λ b. b };
 
@@ -71,7 +72,7 @@ impl Board for PlainBoard {
 
     ghost ready = { λ _. Unit {0} };
 
-    ghost same = { λ _ _. Unit {0} };
+    ghost same = { λ a b. b ≡ a };
 
     fn down(&mut self, node: NodeId) -> Option<Kill> {
         self.kills[node.0 as usize]
@@ -84,7 +85,7 @@ impl Board for PlainBoard {
         }
     }
 
-    ghost same_self = { λ _. tt };
+    ghost same_self = { λ _. refl };
 
-    ghost same_later = { λ _ _ _ _ _. tt };
+    ghost same_later = { λ _ _ _ first then_. then_ ∙ first };
 }

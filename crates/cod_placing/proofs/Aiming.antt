@@ -186,7 +186,8 @@ makes_end w s u caller number stamp t r kills missing reasons sound setting know
       newest = newest;
       idle = idle;
       answer = answer_is s caller.0 number r kills missing reasons sound few some chosen none;
-      quiet = quiet (bytes_of s.site s.log) caller number stamp missing reasons;
+      quiet = λ told. quiet (bytes_of s.site s.log) caller number stamp missing reasons;
+      plain = λ bytes. rw (quiet (bytes_of s.site s.log) caller number stamp missing reasons) bytes;
       dated = inl refl;
       becomes = refl;
     } in

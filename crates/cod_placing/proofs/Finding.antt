@@ -33,7 +33,7 @@ use Rattle.cod_seg.specs.Sound.{AreBroken, is_frail, Sound}
 use Rattle.cod_segment.specs.Events.{IsSettingOf, kills_at, rebuild_rooms, rooms_of}
 use Rattle.cod_segment.specs.Events.{Balances}
 use Rattle.cod_segment.proofs.Balancing.{balanced, then}
-use Rattle.cod_placing.specs.Places.{HasNoSpare, IsFresh}
+use Rattle.cod_placing.specs.Places.{HasNoSpare, IsFirst, IsFresh}
 
 -- ---- the board
 
@@ -198,6 +198,16 @@ none_fits s col after taken bytes broken kills Seen reasons sound is most honest
       (λ r. seen_why s w bytes r.node.0 broken kills Seen r.why honest setting seen) reasons all;
 }
 
+-- The spare is the first node that could take the column.
+pub first_is : (s : Seg) (col after taken bytes node : ℕ) (broken : List (Option ℕ)) (kills : List (Option Killed)) (Seen : ℕ → ℕ → Type 0) (reasons : List Reason) → Sound s → IsSearch s col after taken
+    → bytes ≤ column_size s.site.shape col → IsSpare broken kills (candidates after taken s.site.nodes) reasons node
+    → All (λ (passed : Reason). Refuses bytes broken kills Seen passed.node.0 passed.why) reasons → IsFirst s col reasons node
+first_is s col after taken bytes node broken kills Seen reasons sound is most spare all = record {
+  rest = spare.rest;
+  first = sym (asked_are s col after taken sound is) ∙ spare.first;
+  whys = All-weaker (λ (r : Reason). Refuses bytes broken kills Seen r.node.0 r.why) (λ (r : Reason). IsWhy s.site.shape col r.why) (λ r. whys s col bytes r.node.0 broken kills Seen r.why most) reasons all;
+}
+
 -- ---- free bytes
 
 -- a room is taken
@@ -222,7 +232,7 @@ pub fresh : (s : Seg) (col after taken bytes : ℕ) (broken : List (Option ℕ))
     → t.room.bytes ≡ bytes → t.filled ≡ 0 → t.room.of ≡ s.pools
     → t.device ≡ record { size = bytes; content = t.device.content; reads = 0; writes = 0; faults = 0; never_fails = never t.room.node }
     → Zeros t.device.content bytes → is_some t.device.content ≡ is_some (col_at s.cols 0).state.device.content
-    → ((node : ℕ) → is_frail s.frail node ≡ false → never (node_id node) ≡ true) → IsFresh s bytes broken kills t
+    → ((node : ℕ) → node < s.site.nodes → is_frail s.frail node ≡ false → never (node_id node) ≡ true) → IsFresh s bytes broken kills t
 fresh s col after taken bytes broken kills reasons never t sound is spare room filled owned new zeros tells sure =
     let k = sound.shape.some_data in
     let n = sound.shape.data_among_columns in
@@ -241,7 +251,7 @@ fresh s col after taken bytes broken kills reasons never t sound is spare room f
       unread = ap (λ (d : Device). d.reads) new;
       unwritten = ap (λ (d : Device). d.writes) new;
       clean = ap (λ (d : Device). d.faults) new;
-      sure = λ calm. ap (λ (d : Device). d.never_fails) new ∙ sure t.room.node.0 calm;
+      sure = λ calm. ap (λ (d : Device). d.never_fails) new ∙ sure t.room.node.0 place.0 calm;
       whole = spare.whole;
       up = spare.up;
     }

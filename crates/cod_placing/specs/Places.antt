@@ -1,15 +1,15 @@
 -- What a place for a column is, and why there is none.
-use Rattle.std.specs.Prelude.{◌≡◌, ◌≢◌, ℕ, ◌<◌, ◌∷◌, [], false, true, is_some, List, length, None, Ok, Err, Option, Some, Result}
+use Rattle.std.specs.Prelude.{◌++◌, All, ◌≡◌, ◌≢◌, ℕ, ◌<◌, ◌∷◌, [], false, true, is_some, List, length, None, Ok, Err, Option, Some, Result}
 use Rattle.cod_types.specs.declared.call.Reply.TheVariants.{NoSpare}
 use Rattle.cod_types.specs.declared.reasons.Reason.{Reason}
 use Rattle.cod_region.specs.Device.{Zeros}
 use Rattle.cod_chronicle.specs.Event.{IsSeenReply, Setting}
-use Rattle.cod_chronicle.specs.Legal.{IsReasons}
+use Rattle.cod_chronicle.specs.Legal.{IsReasons, IsWhy, others}
 use Rattle.cod_chronicle.specs.Said.{node_of}
 use Rattle.cod_board.specs.declared.kill.Kill.{Kill as Killed}
 use Rattle.cod_board.specs.Kills.{kill_of}
 use Rattle.cod_place.specs.Room.{Room}
-use Rattle.cod_place.specs.Spares.{fault_of}
+use Rattle.cod_place.specs.Spares.{fault_of, nodes_of}
 use Rattle.cod_seg.specs.Seg.{Seg, Target}
 use Rattle.cod_seg.specs.Sound.{is_frail}
 use Rattle.cod_segment.specs.Events.{IsSettingOf, kills_at}
@@ -44,3 +44,17 @@ pub record IsFresh (s : Seg) (bytes : ℕ) (broken : List (Option ℕ)) (kills :
 pub record HasNoSpare (s : Seg) (c : ℕ) (kills : List (Option Killed)) (given : List Reason) : Type 0 where
   pub reasons : IsReasons s.site s.log c given
   pub seen : (w : Setting) → IsSettingOf w s → ((x : ℕ) → w.seen x ≡ kills_at kills x) → IsSeenReply w.seen w.may (NoSpare given)
+
+-- A node is the first that could take column c: each before it, in cyclic order after the one where the column is, has its reason
+-- among those given.
+pub record IsFirst (s : Seg) (c : ℕ) (given : List Reason) (node : ℕ) : Type 0 where
+  pub rest : List ℕ
+  pub first : others s.site s.log (node_of s.site s.log c) ≡ nodes_of given ++ (node ∷ rest)
+  pub whys : All (λ r. IsWhy s.site.shape c r.why) given
+
+-- Some node is, which is neither broken nor killed.
+pub record HasSpare (s : Seg) (c : ℕ) (broken : List (Option ℕ)) (kills : List (Option Killed)) (given : List Reason) : Type 0 where
+  pub node : ℕ
+  pub first : IsFirst s c given node
+  pub whole : fault_of broken node ≡ None
+  pub up : kill_of kills node ≡ None

@@ -7,8 +7,8 @@ ghost use Rattle.cod_board.specs.Kills.{Keeps};
 ghost use Rattle.cod_place.specs.Room.{Room};
 ghost use Rattle.cod_seg.specs.Sound.{AreBroken, is_frail, Sound};
 ghost use Rattle.cod_segment.specs.Events.{Balances, rooms_of};
-ghost use Rattle.cod_placing.specs.Places.{HasNoSpare, IsFresh, rooms_in};
-ghost use Rattle.cod_placing.specs.declared.placing.Missing.TheVariants.{Spare};
+ghost use Rattle.cod_placing.specs.Places.{HasNoSpare, HasSpare, IsFirst, IsFresh, rooms_in};
+ghost use Rattle.cod_placing.specs.declared.placing.Missing.TheVariants.{Memory, Spare};
 
 use cod_board::Board;
 use cod_place::{Broken, Pools, Room, spare};
@@ -46,9 +46,11 @@ pub fn place_for<R: Region, B: Board, P: Pools, H: Shelf<Region = R>>(
     requires broken { AreBroken segment.now.frail broken.now }
     requires board { (length (B.kills board.old) ≡ segment.now.site.nodes) × B.ready board.old }
     requires pools { (P.nodes pools.old ≡ segment.now.site.nodes) × P.ready pools.old × P.Came pools.old (rooms_of segment.now) }
-    requires shelf { (node : ℕ) → is_frail segment.now.frail node ≡ false → (H.regions shelf.now).never_fail (node_id node) ≡ true }
+    requires shelf { (node : ℕ) → node < segment.now.site.nodes → is_frail segment.now.frail node ≡ false → (H.regions shelf.now).never_fail (node_id node) ≡ true }
     ensures found { IfOk result (λ t. IsFresh segment.now bytes broken.now (B.kills board.new) t) }
+    ensures first { IfOk result (λ t. IsFirst segment.now col reasons.new t.room.node.0) }
     ensures missing { IfErr result (λ e. e ≡ Spare → HasNoSpare segment.now col (B.kills board.new) reasons.new) }
+    ensures memory { IfErr result (λ e. e ≡ Memory → HasSpare segment.now col broken.now (B.kills board.new) reasons.new) }
     ensures rooms { (rest : List Room) → P.Came pools.old rest → P.Came pools.new (rooms_in result ++ rest) }
     ensures balance { Balances (P.free pools.old) (P.free pools.new) [] (rooms_in result) }
     ensures pools { (P.nodes pools.new ≡ P.nodes pools.old) × P.ready pools.new × P.same pools.old pools.new }

@@ -48,7 +48,7 @@ pub fn rebuild_start<R: Region, B: Board, P: Pools, H: Shelf<Region = R>>(
     requires asked { IsAsked segment.old asker.caller.0 asker.number slip.old (call_in slip.old) }
     requires board { (length (B.kills board.old) ≡ segment.old.site.nodes) × B.ready board.old }
     requires pools { (P.nodes pools.old ≡ segment.old.site.nodes) × P.ready pools.old × P.Came pools.old (rooms_of segment.old) }
-    requires shelf { (node : ℕ) → is_frail segment.old.frail node ≡ false → (H.regions shelf.now).never_fail (node_id node) ≡ true }
+    requires shelf { (node : ℕ) → node < segment.old.site.nodes → is_frail segment.old.frail node ≡ false → (H.regions shelf.now).never_fail (node_id node) ≡ true }
     requires room { HasRoom 2 segment.old }
     ensures sound { Sound segment.new }
     ensures makes { (w : Setting) → IsSettingOf w segment.old → ((x : ℕ) → w.seen x ≡ kills_at (B.kills board.new) x)
@@ -110,7 +110,7 @@ fn place_for_rebuild<R: Region, B: Board, P: Pools, H: Shelf<Region = R>>(
     requires progress { IsSome segment.now.rebuild }
     requires board { (length (B.kills board.old) ≡ segment.now.site.nodes) × B.ready board.old }
     requires pools { (P.nodes pools.old ≡ segment.now.site.nodes) × P.ready pools.old × P.Came pools.old (rooms_of segment.now) }
-    requires shelf { (node : ℕ) → is_frail segment.now.frail node ≡ false → (H.regions shelf.now).never_fail (node_id node) ≡ true }
+    requires shelf { (node : ℕ) → node < segment.now.site.nodes → is_frail segment.now.frail node ≡ false → (H.regions shelf.now).never_fail (node_id node) ≡ true }
     ensures found { (r : Rebuilding) → segment.now.rebuild ≡ Some r
         → IfOk result (λ t. IsFresh segment.now (column_size segment.now.site.shape r.col) r.broken (B.kills board.new) t) }
     ensures missing { (r : Rebuilding) → segment.now.rebuild ≡ Some r

@@ -1,12 +1,16 @@
 -- What the steps on one column keep.
 use Rattle.atomic_table.specs.Seated.{TableId}
 use Rattle.cod_types.specs.Overwritten.{byte_of}
-use Rattle.std.proofs.Common.{◌≡◌, ◌≢◌, ℕ, ◌+◌, ◌<◌, ◌≤◌, List, [], ◌∷◌, ◌++◌, length, set, true, false, refl, sym, ap, ◌∙◌, subst, inl, inr, bit_xor, arith, Some, None, Option}
+use Rattle.std.proofs.Common.{◌≡◌, ◌≢◌, ℕ, ◌+◌, ◌<◌, ◌≤◌, List, [], ◌∷◌, ◌++◌, length, set, Bool, true, false, refl, sym, ap, ◌∙◌, subst, inl, inr, bit_xor, arith, Some, None, Option}
 use Rattle.std.specs.List.{All}
 use Rattle.std.proofs.lemmas.Bool.{cases_eq, cases_lt, both_ways, eq-eqb}
 use Rattle.std.proofs.lemmas.List.{get_or-set_same, get_or-set_other, length-set, get_or_default, get_or_past}
 use Rattle.cod_types.specs.Limits.{Shape}
+use Rattle.cod_types.specs.declared.call.Call.{Call as Asked}
+use Rattle.cod_types.specs.declared.call.Call.TheVariants.{Read, Write, Swap, Put, Merge, Tick, Rebuild, Upgrade, Drain}
+use Rattle.cod_types.specs.declared.call.Reply.TheVariants.{Done}
 use Rattle.cod_code.specs.Segments.{column_byte}
+use Rattle.cod_chronicle.specs.Legal.{IsPlain}
 use Rattle.cod_chronicle.specs.declared.entry.Entry.{Entry}
 use Rattle.cod_chronicle.specs.declared.entry.Entry.TheVariants.{Call}
 use Rattle.cod_chronicle.specs.Said.{Site, bytes_of, numbers_by, call_count}
@@ -22,7 +26,7 @@ use Rattle.cod_region.specs.Device.{Device}
 use Rattle.cod_types.specs.declared.call.NodeId.{NodeId}
 use Rattle.cod_parity.proofs.Unique.{held_again}
 use Rattle.cod_seg.specs.Seg.{Col, col_at, no_col, Rebuilding, Seg}
-use Rattle.cod_seg.specs.Sound.{AreColumns, FillsRebuild, HoldBytes, IsClaim, IsColumn, is_frail, IsFault, length_on, pending_on, Sound}
+use Rattle.cod_seg.specs.Sound.{AreColumns, FillsRebuild, HoldBytes, IsClaim, IsColumn, is_frail, IsFault, is_update, length_on, pending_on, Sound}
 use Rattle.cod_seg.specs.Steps.{Answers, KeepsColumn, Works}
 use Rattle.cod_seg.proofs.Telling.{call_says, columns_told, other_numbers, over_before, rebuild_told, SaysSame}
 
@@ -143,6 +147,41 @@ pub claim_told : (site : Site) (log later : List Entry) (claims : List (Option C
     → IsClaim site log claims j c → IsClaim site later claims j c
 claim_told site log later claims j c numbers same is = claim_again site log later claims claims j c numbers same is.all is
 
+-- that an update is done is so whichever bytes there are, where they aren't told
+done_untold : (b d : List ℕ) (call : Asked) → is_update call ≡ true → IsPlain false b call Done → IsPlain false d call Done
+done_untold b d (Read off len) update is = cc
+done_untold b d (Write off bytes) update is = refl
+done_untold b d (Swap off old new) update is = is
+done_untold b d (Put bytes) update is = cc
+done_untold b d Merge update is = cc
+done_untold b d Tick update is = cc
+done_untold b d Rebuild update is = cc
+done_untold b d Upgrade update is = cc
+done_untold b d (Drain node) update is = cc
+
+done_again : (told : Bool) (b d : List ℕ) (call : Asked) → is_update call ≡ true → (told ≡ true → d ≡ b) → IsPlain told b call Done → IsPlain told d call Done
+done_again true b d call update same is = rw (same refl) is
+done_again false b d call update same is = done_untold b d call update is
+
+-- a claim, where its caller's numbers are the same, and the bytes where they are told
+claim_spoken : (site : Site) (log later : List Entry) (claims : List (Option Claim)) (j : ℕ) (c : Claim) → numbers_by c.owner.0 later ≡ numbers_by c.owner.0 log
+    → (site.told ≡ true → bytes_of site later ≡ bytes_of site log)
+    → IsClaim site log claims j c → IsClaim site later claims j c
+claim_spoken site log later claims j c numbers same is = record {
+  among = is.among;
+  newest = rw numbers is.newest;
+  update = is.update;
+  free = is.free;
+  done = done_again site.told (bytes_of site log) (bytes_of site later) c.delta.call is.update same is.done;
+  part = is.part;
+  some = is.some;
+  from = is.from;
+  bytes = is.bytes;
+  size = is.size;
+  delta = λ told. rw (same told) (is.delta told);
+  all = is.all;
+}
+
 pub idle_other : (caller : ℕ) (claims : List (Option Claim)) (j : ℕ) (c : Claim) → ((m : ℕ) → is_of caller (claim_at claims m) ≡ false) → claim_at claims j ≡ Some c → caller ≢ c.owner.0
 idle_other caller claims j c idle here e = both_ways (is_of caller (claim_at claims j)) (idle j) (ap (is_of caller) here ∙ eq-eqb c.owner.0 caller (sym e))
 
@@ -160,7 +199,7 @@ answers_keep s t sound step =
     let e : Entry = Call step.caller step.number step.stamp step.call step.reply in
     let later = s.log ++ e ∷ [] in
     let says : SaysSame s.site s.log later = call_says s.site s.log step.caller step.number step.stamp step.call step.reply in
-    let same : bytes_of s.site later ≡ bytes_of s.site s.log = bytes_of-push s.site s.log e ∙ step.quiet in
+    let same : s.site.told ≡ true → bytes_of s.site later ≡ bytes_of s.site s.log = λ told. bytes_of-push s.site s.log e ∙ step.quiet told in
     let more : call_count later ≡ call_count s.log + 1 = call_count-push s.log e in
     let idle = has_none step.caller.0 s.claims step.idle in
     rw step.becomes (record {
@@ -173,16 +212,16 @@ answers_keep s t sound step =
         chronicle = chronicle-push s.log e sound.history.chronicle step.follows step.newest;
         legal = legal-push s.site s.log e sound.history.legal step.answer;
         honest = Each-append (IsFault s.frail) s.log (e ∷ []) sound.history.honest (tt, tt);
-        plain = rw same sound.history.plain;
+        plain = rw (bytes_of-push s.site s.log e) (step.plain sound.history.plain);
       };
       columns = columns_told s.site s.frail s.pools s.log later s.cols says sound.columns;
       cut = record { size = sound.cut.size; each = λ j. let o = sound.cut.each j in omega (arith, o, more) };
       claimed = record {
         sixteen = sound.claimed.sixteen;
-        each = λ j c here. claim_told s.site s.log later s.claims j c (other_numbers c.owner.0 s.log step.caller step.number step.stamp step.call step.reply
+        each = λ j c here. claim_spoken s.site s.log later s.claims j c (other_numbers c.owner.0 s.log step.caller step.number step.stamp step.call step.reply
             (idle_other step.caller.0 s.claims j c idle here)) same (sound.claimed.each j c here);
       };
       rebuilt = rebuild_told s.site s.frail s.pools s.log later s.rebuild says sound.rebuilt;
       single = sound.single;
-      holds = λ told enough. rw same (sound.holds told (over_before s.site s.log later says enough));
+      holds = λ told enough. rw (same told) (sound.holds told (over_before s.site s.log later says enough));
     })

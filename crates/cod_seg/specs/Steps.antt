@@ -203,7 +203,8 @@ pub record Marks (i : ℕ) (before after : Seg) : Type 0 where
     log = before.log ++ Down stamp i (node_id (node_in (col_at before.cols i))) cause ∷ [];
   }
 
--- A call that changes no byte is answered. Its caller has no claim. An upgrade sets the version of records to 2.
+-- A call that changes no byte is answered. Its caller has no claim. An upgrade sets the version of records to 2. Where regions don't tell
+-- what they hold, a swap may be answered that other bytes were found, whichever bytes its chronicle leaves.
 pub record Answers (before after : Seg) : Type 0 where
   pub caller : Caller
   pub number : ℕ
@@ -214,7 +215,9 @@ pub record Answers (before after : Seg) : Type 0 where
   pub newest : All (λ m. m < number) (numbers_by caller.0 before.log)
   pub idle : HasNone caller.0 before.claims
   pub answer : IsAnswer before.site before.log call reply
-  pub quiet : bytes_next (bytes_of before.site before.log) (Call caller number stamp call reply) ≡ bytes_of before.site before.log
+  pub quiet : before.site.told ≡ true
+      → bytes_next (bytes_of before.site before.log) (Call caller number stamp call reply) ≡ bytes_of before.site before.log
+  pub plain : AreBytes (bytes_of before.site before.log) → AreBytes (bytes_next (bytes_of before.site before.log) (Call caller number stamp call reply))
   pub dated : (after.version ≡ before.version) ⊎ ((call ≡ Upgrade) × (after.version ≡ 2) × (before.site.shape.version ≡ 2))
   pub becomes : after ≡ record before { version = after.version; log = before.log ++ Call caller number stamp call reply ∷ [] }
 

@@ -11,6 +11,7 @@ use Rattle.cod_types.specs.declared.call.Caller.{Caller}
 use Rattle.cod_types.specs.declared.call.NodeId.{NodeId}
 use Rattle.cod_types.specs.declared.call.Reply.{Reply}
 use Rattle.cod_types.specs.declared.call.Reply.TheVariants.{Done, Long, Lost, Range}
+use Rattle.cod_code.specs.Codewords.{AreBytes}
 use Rattle.cod_chronicle.specs.declared.entry.Entry.TheVariants.{Call}
 use Rattle.cod_chronicle.specs.Event.{IsSeenReply, Request, Setting}
 use Rattle.cod_chronicle.specs.Legal.{IsAnswer}
@@ -87,15 +88,17 @@ unopened s caller number p call asked claim rebuild = by asked.state where
 
 -- ---- the event
 
--- Its entry is the next, with the next stamp.
-pub answered : (w : Setting) (s u : Seg) (caller : Caller) (number stamp t version : ℕ) (call : Asked) (reply : Reply) → HasNone caller.0 s.claims → IsOther caller.0 s.rebuild
+-- Its entry is the next, with the next stamp. Where regions don't tell what they hold, the bytes that the chronicle leaves need not stay,
+-- but are bytes.
+pub spoken : (w : Setting) (s u : Seg) (caller : Caller) (number stamp t version : ℕ) (call : Asked) (reply : Reply) → HasNone caller.0 s.claims → IsOther caller.0 s.rebuild
     → All (λ m. m < number) (numbers_by caller.0 s.log) → IsAnswer s.site s.log call reply
-    → bytes_next (bytes_of s.site s.log) (Call caller number stamp call reply) ≡ bytes_of s.site s.log
+    → (s.site.told ≡ true → bytes_next (bytes_of s.site s.log) (Call caller number stamp call reply) ≡ bytes_of s.site s.log)
+    → (AreBytes (bytes_of s.site s.log) → AreBytes (bytes_next (bytes_of s.site s.log) (Call caller number stamp call reply)))
     → (version ≡ s.version) ⊎ ((call ≡ Upgrade) × (version ≡ 2) × (s.site.shape.version ≡ 2))
     → IsSeenReply w.seen w.may reply → stamp ≡ next_stamp (clock_of s.log) t → StampFollows s.log stamp
     → u ≡ record s { version = version; log = s.log ++ Call caller number stamp call reply ∷ [] }
     → Makes w (request_of caller.0 number call) t stamp true s u
-answered w s u caller number stamp t version call reply idle alone newest answer quiet dated seen next follows becomes =
+spoken w s u caller number stamp t version call reply idle alone newest answer quiet plain dated seen next follows becomes =
     let is : Answers s u = record {
       caller = caller;
       number = number;
@@ -107,6 +110,7 @@ answered w s u caller number stamp t version call reply idle alone newest answer
       idle = idle;
       answer = answer;
       quiet = quiet;
+      plain = plain;
       dated = rw becomes dated;
       becomes = rw becomes refl;
     } in
@@ -127,6 +131,16 @@ answered w s u caller number stamp t version call reply idle alone newest answer
         },
       );
     }
+
+pub answered : (w : Setting) (s u : Seg) (caller : Caller) (number stamp t version : ℕ) (call : Asked) (reply : Reply) → HasNone caller.0 s.claims → IsOther caller.0 s.rebuild
+    → All (λ m. m < number) (numbers_by caller.0 s.log) → IsAnswer s.site s.log call reply
+    → bytes_next (bytes_of s.site s.log) (Call caller number stamp call reply) ≡ bytes_of s.site s.log
+    → (version ≡ s.version) ⊎ ((call ≡ Upgrade) × (version ≡ 2) × (s.site.shape.version ≡ 2))
+    → IsSeenReply w.seen w.may reply → stamp ≡ next_stamp (clock_of s.log) t → StampFollows s.log stamp
+    → u ≡ record s { version = version; log = s.log ++ Call caller number stamp call reply ∷ [] }
+    → Makes w (request_of caller.0 number call) t stamp true s u
+answered w s u caller number stamp t version call reply idle alone newest answer quiet dated seen next follows becomes =
+    spoken w s u caller number stamp t version call reply idle alone newest answer (λ told. quiet) (λ bytes. rw quiet bytes) dated seen next follows becomes
 
 -- what is made of a sound segment is sound
 pub sound_after : (w : Setting) (r : Request) (t after : ℕ) (done : Bool) (s u : Seg) → Sound s → Makes w r t after done s u → Sound u

@@ -3,7 +3,10 @@
 
 mod around;
 mod building;
+mod rebuilding;
+mod serving;
 mod stripe;
+mod updating;
 
 pub use around::Around;
 pub use cod_segment::Outcome;

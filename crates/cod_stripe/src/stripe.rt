@@ -34,7 +34,7 @@ use std::marker::Model;
 /// step of one call; it takes no memory but in `rebuild_start`, in `drain`, and for a decoding row that is kept.
 #[derive(Drop)]
 pub struct Stripe<R: Region> {
-    segment: Segment<R>,
+    pub(crate) segment: Segment<R>,
 }
 
 impl<R: Region> Model for Stripe<R> {
@@ -114,7 +114,7 @@ impl<R: Region> Stripe<R> {
         requires asked { IsAsked self.old around.old.caller.0 around.old.number slip.old (call_in slip.old) }
         requires board { (length (B.kills around.old.board.now) ≡ self.old.site.nodes) × B.ready around.old.board.now }
         requires pools { (P.nodes around.old.pools.now ≡ self.old.site.nodes) × P.ready around.old.pools.now × P.Came around.old.pools.now (rooms_of self.old) }
-        requires shelf { (node : ℕ) → is_frail self.old.frail node ≡ false → (H.regions around.old.shelf.now).never_fail (node_id node) ≡ true }
+        requires shelf { (node : ℕ) → node < self.old.site.nodes → is_frail self.old.frail node ≡ false → (H.regions around.old.shelf.now).never_fail (node_id node) ≡ true }
         requires bench { around.old.bench.now ≡ self.old.site.shape }
         requires room { HasRoom 2 self.old }
         ensures makes { (w : Setting) → IsSettingOf w self.old → ((x : ℕ) → w.seen x ≡ kills_at (B.kills around.new.board.now) x)
@@ -148,7 +148,7 @@ impl<R: Region> Stripe<R> {
         requires asked { IsAsked self.old around.old.caller.0 around.old.number slip.old (call_in slip.old) }
         requires board { (length (B.kills around.old.board.now) ≡ self.old.site.nodes) × B.ready around.old.board.now }
         requires pools { (P.nodes around.old.pools.now ≡ self.old.site.nodes) × P.ready around.old.pools.now × P.Came around.old.pools.now (rooms_of self.old) }
-        requires shelf { (node : ℕ) → is_frail self.old.frail node ≡ false → (H.regions around.old.shelf.now).never_fail (node_id node) ≡ true }
+        requires shelf { (node : ℕ) → node < self.old.site.nodes → is_frail self.old.frail node ≡ false → (H.regions around.old.shelf.now).never_fail (node_id node) ≡ true }
         requires bench { around.old.bench.now ≡ self.old.site.shape }
         requires room { HasRoom 2 self.old }
         ensures makes { (w : Setting) → IsSettingOf w self.old → ((x : ℕ) → w.seen x ≡ kills_at (B.kills around.new.board.now) x)
@@ -179,7 +179,7 @@ impl<R: Region> Stripe<R> {
         requires asked { IsAsked self.old around.old.caller.0 around.old.number slip.old (call_in slip.old) }
         requires board { (length (B.kills around.old.board.now) ≡ self.old.site.nodes) × B.ready around.old.board.now }
         requires pools { (P.nodes around.old.pools.now ≡ self.old.site.nodes) × P.ready around.old.pools.now × P.Came around.old.pools.now (rooms_of self.old) }
-        requires shelf { (node : ℕ) → is_frail self.old.frail node ≡ false → (H.regions around.old.shelf.now).never_fail (node_id node) ≡ true }
+        requires shelf { (node : ℕ) → node < self.old.site.nodes → is_frail self.old.frail node ≡ false → (H.regions around.old.shelf.now).never_fail (node_id node) ≡ true }
         requires bench { around.old.bench.now ≡ self.old.site.shape }
         requires room { HasRoom 2 self.old }
         ensures makes { (w : Setting) → IsSettingOf w self.old → ((x : ℕ) → w.seen x ≡ kills_at (B.kills around.new.board.now) x)
@@ -211,7 +211,7 @@ impl<R: Region> Stripe<R> {
         requires asked { IsAsked self.old around.old.caller.0 around.old.number slip.old (call_in slip.old) }
         requires board { (length (B.kills around.old.board.now) ≡ self.old.site.nodes) × B.ready around.old.board.now }
         requires pools { (P.nodes around.old.pools.now ≡ self.old.site.nodes) × P.ready around.old.pools.now × P.Came around.old.pools.now (rooms_of self.old) }
-        requires shelf { (node : ℕ) → is_frail self.old.frail node ≡ false → (H.regions around.old.shelf.now).never_fail (node_id node) ≡ true }
+        requires shelf { (node : ℕ) → node < self.old.site.nodes → is_frail self.old.frail node ≡ false → (H.regions around.old.shelf.now).never_fail (node_id node) ≡ true }
         requires bench { around.old.bench.now ≡ self.old.site.shape }
         requires room { HasRoom 2 self.old }
         ensures makes { (w : Setting) → IsSettingOf w self.old → ((x : ℕ) → w.seen x ≡ kills_at (B.kills around.new.board.now) x)

@@ -1,12 +1,12 @@
-use Rattle.std.proofs.Common.{◌≡◌, refl, sym, ap, ◌∙◌, subst}
+use Rattle.std.proofs.Common.{◌≡◌, ℕ, refl, sym, ap, ◌∙◌, subst}
 use Rattle.std.specs.Prelude.{is_some}
 use Rattle.cod_types.specs.declared.call.NodeId.{NodeId}
 use Rattle.cod_repair.specs.Columns.{is_taken as is_taken_by}
 use Rattle.cod_place.specs.Spares.{IsSpare, candidates}
 use Rattle.cod_seg.specs.Seg.{col_at, Seg, Target}
 use Rattle.cod_segment.specs.Events.{rooms_of}
-use Rattle.cod_placing.specs.Places.{IsFresh}
-use Rattle.cod_placing.proofs.Finding.{fresh, given_balances, IsSearch, none_fits, owner_is}
+use Rattle.cod_placing.specs.Places.{IsFirst, IsFresh}
+use Rattle.cod_placing.proofs.Finding.{first_is, fresh, given_balances, IsSearch, none_fits, owner_is}
 use Rattle.cod_placing.proofs.placing.place_for.Goals as goal
 
 pub returns-in-None-clause-missing : goal.returns-in-None-clause-missing
@@ -48,3 +48,37 @@ returns-in-Ok-clause-found g c =
     spare c.in-Some.ensures.found.0 refl owned
     (rw (← on) c.in-Ok.ensures.fresh) c.in-Ok.ensures.zeros (c.tells_as.ensures ∙ ap (λ (x : Seg). is_some (col_at x.cols 0).state.device.content) c.segment.view_is) c.requires.shelf in
     subst (λ (x : Target). IsFresh s c.args.bytes c.args.broken.now kills x) (sym c.new.ensures) is
+
+pub returns-in-Ok-clause-first : goal.returns-in-Ok-clause-first
+returns-in-Ok-clause-first g c =
+    let s = c.args.segment.now in
+    let room = c.in-Some.room in
+    let search : IsSearch s c.args.col c.node-after.result.0 c.taken-taken.result = record {
+      among = c.requires.col;
+      from = ap (λ (n : NodeId). n.0) c.node-after.ensures ∙ ap (λ (x : Seg). (col_at x.cols c.args.col).room.node.0) c.segment.view_is;
+      taken_is = λ node. c.taken-taken.ensures node ∙ ap (λ (x : Seg). is_taken_by x.cols node) c.segment.view_is;
+    } in
+    let kills = g.B.Board.kills c.spare.new.board in
+    let spare : IsSpare c.args.broken.now kills (candidates c.node-after.result.0 c.taken-taken.result s.site.nodes) c.spare.new.reasons room.node.0 =
+    subst (λ (x : Seg). IsSpare c.args.broken.now kills (candidates c.node-after.result.0 c.taken-taken.result x.site.nodes) c.spare.new.reasons room.node.0) c.segment.view_is c.in-Some.ensures.found.1 in
+    let Mid : ℕ → ℕ → Type 0 = λ x n. (p : g.row.P.Denot) × g.P.Pools.same c.args.pools.now p × g.P.Pools.Seen c.args.pools.now p x n in
+    let first = first_is s c.args.col c.node-after.result.0 c.taken-taken.result c.args.bytes room.node.0 c.args.broken.now kills Mid c.spare.new.reasons c.requires.sound search c.requires.bytes spare
+    c.in-Some.ensures.found.2 in
+    subst (λ (x : Target). IsFirst s c.args.col c.spare.new.reasons x.room.node.0) (sym c.new.ensures) first
+
+pub returns-in-Err-clause-memory : goal.returns-in-Err-clause-memory
+returns-in-Err-clause-memory g c = λ same.
+    let s = c.args.segment.now in
+    let room = c.in-Some.room in
+    let search : IsSearch s c.args.col c.node-after.result.0 c.taken-taken.result = record {
+      among = c.requires.col;
+      from = ap (λ (n : NodeId). n.0) c.node-after.ensures ∙ ap (λ (x : Seg). (col_at x.cols c.args.col).room.node.0) c.segment.view_is;
+      taken_is = λ node. c.taken-taken.ensures node ∙ ap (λ (x : Seg). is_taken_by x.cols node) c.segment.view_is;
+    } in
+    let kills = g.B.Board.kills c.spare.new.board in
+    let spare : IsSpare c.args.broken.now kills (candidates c.node-after.result.0 c.taken-taken.result s.site.nodes) c.spare.new.reasons room.node.0 =
+    subst (λ (x : Seg). IsSpare c.args.broken.now kills (candidates c.node-after.result.0 c.taken-taken.result x.site.nodes) c.spare.new.reasons room.node.0) c.segment.view_is c.in-Some.ensures.found.1 in
+    let Mid : ℕ → ℕ → Type 0 = λ x n. (p : g.row.P.Denot) × g.P.Pools.same c.args.pools.now p × g.P.Pools.Seen c.args.pools.now p x n in
+    let first = first_is s c.args.col c.node-after.result.0 c.taken-taken.result c.args.bytes room.node.0 c.args.broken.now kills Mid c.spare.new.reasons c.requires.sound search c.requires.bytes spare
+    c.in-Some.ensures.found.2 in
+    record { node = room.node.0; first = first; whole = spare.whole; up = spare.up }

@@ -1,0 +1,5 @@
+mod Endings
+mod Leading
+mod Pieces
+mod Rooms
+mod Trials

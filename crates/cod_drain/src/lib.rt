@@ -1,0 +1,10 @@
+//! The drain of a segment: a live column moves off a node.
+#![tactic(auto)]
+
+mod copying;
+mod draining;
+mod ending;
+mod plan;
+mod trying;
+
+pub use draining::drain;

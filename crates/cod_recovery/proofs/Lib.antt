@@ -1,0 +1,9 @@
+pub mod Bringing
+pub mod Fetching
+pub mod Losses
+pub mod Pieces
+pub mod Risings
+pub mod Rooms
+pub mod Sourcing
+pub mod Sweeps
+pub mod Views

@@ -1,0 +1,9 @@
+pub mod Passing
+pub mod Turning
+pub mod Answered
+pub mod Trimming
+pub mod Cutting
+pub mod Targeting
+pub mod Giving
+pub mod Filling
+pub mod Replacing

@@ -1,0 +1,12 @@
+use Rattle.std.proofs.Common.{subst}
+use Rattle.cod_segment.specs.declared.asking.Asker.{Asker}
+use Rattle.cod_segment.specs.Events.{call_in, is_answered, Makes, request_of}
+use Rattle.cod_stripe.proofs.stripe.Stripe.rebuild_start.Goals as goal
+
+pub returns-clause-makes : goal.returns-clause-makes
+returns-clause-makes g c = λ w setting seen. rw (← c.self.view_is)
+    (subst (λ (a : Asker). Makes w (request_of a.caller.0 a.number (call_in c.args.slip.now)) c.args.around.now.clock.now c.rebuild_start.new.clock (is_answered c.rebuild_start.result) c.self.inside.segment c.rebuild_start.new.segment)
+    c.asker-asker.ensures (c.rebuild_start.ensures.makes w (rw c.self.view_is setting) seen))
+
+pub returns-clause-exact : goal.returns-clause-exact
+returns-clause-exact g c = λ w known. rw (← c.self.view_is) (c.rebuild_start.ensures.exact w known)

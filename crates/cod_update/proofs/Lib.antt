@@ -1,0 +1,9 @@
+pub mod EachBlock
+pub mod Falling
+pub mod Moving
+pub mod OnCommit
+pub mod OnData
+pub mod OnParity
+pub mod OnTarget
+pub mod Opened
+pub mod Targeted

@@ -1,0 +1,4 @@
+pub mod Correcting
+pub mod Failing
+pub mod Noting
+pub mod Placing
