@@ -10,3 +10,4 @@ pub mod Worldly
 pub mod Totalling
 pub mod Lining
 pub mod Slipping
+pub mod Leading

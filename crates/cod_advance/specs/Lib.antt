@@ -2,3 +2,4 @@ pub mod Served
 pub mod Work
 pub mod Worlds
 pub mod Moments
+pub mod Histories

@@ -1,11 +1,13 @@
 //! How one event of a segment is one turn of a run. There is no program here: the functions do nothing, and their clauses are laws.
 #![tactic(auto)]
 
+mod histories;
 mod moments;
 mod served;
 mod work;
 mod worlds;
 
+pub use histories::{leads_are_turns, leads_on};
 pub use moments::{
     failing_keeps_slips, first_has_slips, first_is_moment, line_is_there, moment_has_room,
     number_is_small, serving_keeps_slips, slip_is_asked, turn_leads_on,

@@ -1,30 +1,28 @@
 -- Old bytes that are brought into the changes of an update.
-use Rattle.std.proofs.Common.{◌≡◌, ◌≢◌, ℕ, zero, suc, ◌+◌, ◌*◌, ◌<◌, ◌≤◌, List, [], ◌∷◌, ◌++◌, length, get_or, map, set, take, All, Bool, true, false, Option, Some, None, refl, sym, ap, ◌∙◌, subst, arith, inl, inr}
-use Rattle.std.specs.Prelude.{slice_set, unwrap_or}
+use Rattle.std.proofs.Common.{◌≡◌, ℕ, suc, ◌+◌, ◌*◌, ◌<◌, ◌≤◌, List, [], ◌∷◌, ◌++◌, length, get_or, take, true, false, Option, Some, refl, sym, ap, ◌∙◌, subst, arith, inl, inr}
+use Rattle.std.specs.Prelude.{slice_set}
 use Rattle.std.specs.List.{flat_map}
-use Rattle.std.proofs.lemmas.Bool.{cases_eq, cases_lt}
-use Rattle.std.proofs.lemmas.List.{get_or-map, get_or-set_other, get_or-set_same, length-map, length-set}
+use Rattle.std.proofs.lemmas.Bool.{cases_eq}
+use Rattle.std.proofs.lemmas.List.{get_or-map, get_or-set_other, get_or-set_same, length-map}
 use Rattle.std.proofs.lemmas.List.Elements.{All-set}
 use Rattle.std.proofs.Math.Seq.{map-set_same}
-use Rattle.cod_types.specs.Limits.{Shape}
 use Rattle.cod_types.specs.Plain.{bytes_at}
-use Rattle.cod_types.specs.declared.call.Call.{Call as Asked}
 use Rattle.cod_types.specs.declared.call.Call.TheVariants.{Merge}
 use Rattle.cod_layout.specs.declared.parts.Part.{Part}
 use Rattle.cod_layout.specs.Blocks.{block_of}
-use Rattle.cod_layout.specs.Parts.{IsInside, parts_of, place_of}
+use Rattle.cod_layout.specs.Parts.{IsInside, place_of}
 use Rattle.cod_layout.proofs.Blocks.{bytes_at-add, bytes_at-bytes_at}
 use Rattle.cod_layout.proofs.Splitting.{flat_map-parts_of}
-use Rattle.cod_chronicle.specs.Said.{bytes_of, is_over, Site}
+use Rattle.cod_chronicle.specs.Said.{bytes_of, is_over}
 use Rattle.cod_chronicle.proofs.Walking.{set_again}
 use Rattle.cod_claims.specs.Changes.{blank, Change, joined, LiesInside, new_bytes}
-use Rattle.cod_claims.specs.Slips.{AreWhole, change_at, changes_of, Paper, with_bytes}
+use Rattle.cod_claims.specs.Slips.{change_at, changes_of, Paper, with_bytes}
 use Rattle.cod_seg.specs.Calls.{block_reads}
 use Rattle.cod_seg.specs.Seg.{Seg}
-use Rattle.cod_seg.specs.Sound.{begin_of, Sound}
+use Rattle.cod_seg.specs.Sound.{begin_of}
 use Rattle.cod_segment.specs.Events.{call_in}
 use Rattle.cod_reading.specs.Filling.{HasOld, IsFilling, parts_in}
-use Rattle.cod_reading.specs.Reads.{Brings, MayRead, MayReadAll, part_bytes, part_reads, Reads}
+use Rattle.cod_reading.specs.Reads.{Brings, MayRead, MayReadAll, part_reads, Reads}
 use Rattle.cod_reading.proofs.Chaining.{brings_before}
 use Rattle.cod_reading.proofs.Parting.{may_next, reads_next}
 
@@ -117,3 +115,42 @@ range_found s p is fits told =
     joined_old s (changes_of p) (is.old told)
     ∙ ap (flat_map (λ (part : Part). bytes_at b (place_of g.block part) part.len)) is.parts
     ∙ flat_map-parts_of (bytes_at b) (λ a. refl) (bytes_at-add b) g.k g.block (begin_of (call_in p)) (length (new_bytes (call_in p))) fits
+
+-- ---- one more
+
+pub part_is : (parts : List Part) (cs : List Change) (i : ℕ) (d : Part) → parts_in cs ≡ parts → i < length cs → get_or parts i d ≡ (change_at cs i).part
+part_is parts cs i d are there = ap (λ (l : List Part). get_or l i d) (sym are) ∙ part_at cs i d there
+
+pub may_fill : (count : ℕ → ℕ) (t mid : ℕ) (s v : Seg) (parts : List Part) (m i : ℕ) (cs : List Change) → MayReadAll s parts m → Reads count t mid s v → is_over v.site v.log ≡ false
+    → parts_in cs ≡ parts → i < length cs → MayRead v (change_at cs i).part.block (change_at cs i).part.off (change_at cs i).part.len
+may_fill count t mid s v parts m i cs may is few are there =
+    let d : Part = record { block = 0; off = 0; len = 0 } in
+    let within : i < length parts = let a = ap length are in let b = parts_long cs in omega (arith, there, a, b) in
+    subst (λ (x : Part). MayRead v x.block x.off x.len) (part_is parts cs i d are there) (may_next count t mid s v parts m i d may is few within)
+
+pub same_next : (p q n : Paper) (i : ℕ) (bytes : List ℕ) → q ≡ record p { changes = q.changes } → n ≡ with_bytes i bytes q → n ≡ record p { changes = n.changes }
+same_next p q n i bytes same is =
+    is ∙ ap (λ (x : Paper). record x { changes = (with_bytes i bytes q).changes }) same ∙ ap (λ (o : Option (List Change)). record p { changes = o }) (sym (ap (λ (x : Paper). x.changes) is))
+
+pub parts_next : (parts : List Part) (q n : Paper) (i : ℕ) (bytes : List ℕ) → parts_in (changes_of q) ≡ parts → n ≡ with_bytes i bytes q → parts_in (changes_of n) ≡ parts
+parts_next parts q n i bytes are is = ap (λ (x : Paper). parts_in (changes_of x)) is ∙ parts_stay i bytes q ∙ are
+
+pub filled_next : (count : ℕ → ℕ) (t mid : ℕ) (s v : Seg) (parts : List Part) (m i : ℕ) (q n : Paper) (bytes : List ℕ) → MayReadAll s parts m → Reads count t mid s v
+    → parts_in (changes_of q) ≡ parts → i < length (changes_of q) → IsFilling s i q → length bytes ≡ (change_at (changes_of q) i).part.len → n ≡ with_bytes i bytes q
+    → Brings v (change_at (changes_of q) i).part.block (change_at (changes_of q) i).part.off bytes → IsFilling s (i + 1) n
+filled_next count t mid s v parts m i q n bytes may is are there filling long wrote brings =
+    let d : Part = record { block = 0; off = 0; len = 0 } in
+    let cs = changes_of q in
+    let within : i < length parts = let a = ap length are in let b = parts_long cs in omega (arith, there, a, b) in
+    let at = part_is parts cs i d are there in
+    subst (IsFilling s (i + 1)) (sym wrote)
+    (filling_next s i q bytes filling there long (has_old count t mid s v parts m i d (record (change_at cs i) { bytes = bytes }) is may within at long brings))
+
+pub counts_next : (t mid after : ℕ) (s v u : Seg) (parts : List Part) (m i : ℕ) (cs : List Change) → MayReadAll s parts m → parts_in cs ≡ parts → i < length cs
+    → Reads (part_reads s.site.shape.k s.cols (take i parts)) t mid s v → Reads (block_reads v.site.shape.k v.cols (change_at cs i).part.block) mid after v u
+    → Reads (part_reads s.site.shape.k s.cols (take (i + 1) parts)) t after s u
+counts_next t mid after s v u parts m i cs may are there one two =
+    let d : Part = record { block = 0; off = 0; len = 0 } in
+    let within : i < length parts = let a = ap length are in let b = parts_long cs in omega (arith, there, a, b) in
+    reads_next t mid after s v u parts m i d may within one
+    (subst (λ (x : Part). Reads (block_reads v.site.shape.k v.cols x.block) mid after v u) (sym (part_is parts cs i d are there)) two)

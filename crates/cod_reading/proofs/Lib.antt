@@ -6,3 +6,5 @@ pub mod Parting
 pub mod Ending
 pub mod Asking
 pub mod Filling
+pub mod Starting
+pub mod Claiming

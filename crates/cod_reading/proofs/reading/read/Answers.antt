@@ -7,7 +7,6 @@ use Rattle.cod_layout.specs.declared.parts.Part.{Part}
 use Rattle.cod_layout.specs.Parts.{IsSplit, parts_of}
 use Rattle.cod_claims.specs.Slips.{Paper}
 use Rattle.cod_seg.specs.Seg.{Seg}
-use Rattle.cod_seg.specs.declared.next.Step.TheVariants as step
 use Rattle.cod_segment.specs.Events.{call_in}
 use Rattle.cod_repair.proofs.Valuing.{given_whole}
 use Rattle.cod_reading.specs.Reads.{BringsAll}
