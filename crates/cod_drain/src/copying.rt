@@ -16,7 +16,7 @@ use cod_segment::Segment;
 const PIECE: usize = 4096;
 
 /// Which region failed.
-#[derive(Clone, Copy, Debug)]
+#[derive(Clone, Copy)]
 pub(crate) enum CopyFailed {
     /// The column's own.
     Old(ColumnFailed),

@@ -1,6 +1,6 @@
 //! The event of a drain.
 
-ghost use Rattle.std.specs.Prelude.{◌≡◌, ◌<◌, ℕ, ◌++◌, IsSome, List, Some, length, false, true};
+ghost use Rattle.std.specs.Prelude.{◌≡◌, ℕ, ◌<◌, ◌++◌, IsSome, List, Some, length, false, true};
 ghost use Rattle.cod_board.specs.Kills.{Keeps};
 ghost use Rattle.cod_chronicle.specs.Event.{Setting};
 ghost use Rattle.cod_chronicle.specs.Legal.{node_id};

@@ -17,6 +17,7 @@ ghost use Rattle.cod_drain.specs.Copies.{place_of, rooms_at};
 ghost use Rattle.cod_drain.specs.Ends.{Ends, Enters, IsDraining, IsServed, MayEnd};
 ghost use Rattle.cod_drain.specs.Plans.{IsPlan};
 
+use crate::giving::let_go;
 use crate::plan::Plan;
 use crate::trying::Tried;
 use cod_chronicle::Entry;
@@ -78,7 +79,7 @@ fn settle<R: Region, P: Pools>(
     let node = target.node();
     let (region, room) = target.into_parts();
     let old = replace(segment, plan, region, room);
-    pools.give(old);
+    let_go(old, pools);
     node
 }
 

@@ -4,6 +4,7 @@
 mod copying;
 mod draining;
 mod ending;
+mod giving;
 mod plan;
 mod trying;
 

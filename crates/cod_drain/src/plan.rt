@@ -10,7 +10,7 @@ use cod_region::Region;
 use cod_segment::Segment;
 
 /// A column's new place: its bytes, and a parity column's size of reserved space and average.
-#[derive(Clone, Copy, Debug)]
+#[derive(Clone, Copy)]
 pub(crate) struct Plan {
     pub(crate) col: u8,
     pub(crate) bytes: u32,

@@ -11,6 +11,7 @@ ghost use Rattle.cod_drain.specs.Ends.{IsServed};
 ghost use Rattle.cod_drain.specs.Plans.{IsPlan};
 
 use crate::copying::{CopyFailed, copy_column};
+use crate::giving::let_go;
 use crate::plan::Plan;
 use cod_board::Board;
 use cod_place::{Broken, Pools};
@@ -41,7 +42,7 @@ fn give_back<R: Region, P: Pools>(target: Target<R>, pools: &mut P)
     ensures pools { (P.nodes pools.new ≡ P.nodes pools.old) × P.ready pools.new × P.same pools.old pools.new }
 {
     let (_, room) = target.into_parts();
-    pools.give(room);
+    let_go(room, pools);
 }
 
 /// Copies a column to the next spare node. None where the region there failed: then its node is broken for this drain.
