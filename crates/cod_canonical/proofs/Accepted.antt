@@ -29,64 +29,64 @@ use Rattle.cod_canonical.proofs.Spoken.{IsSaid, AreShort, words_good}
 
 -- ---- the lines of the clients
 
-abbrev pub AreSpoken : ℕ → List Client → Type 0
-AreSpoken version cs = AllByRecursion (λ (c : Client). AllByRecursion (λ (l : Line). IsSpoken version l.what) c.lines) cs
+abbrev pub AreSpoken : List Client → Type 0
+AreSpoken cs = AllByRecursion (λ (c : Client). AllByRecursion (λ (l : Line). IsSpoken l.what) c.lines) cs
 
-lines_spoken : (version : ℕ) (ls : List Line) (l : Line) → AllByRecursion (λ (l : Line). IsSpoken version l.what) ls → IsSpoken version l.what
-    → AllByRecursion (λ (l : Line). IsSpoken version l.what) (ls ++ l ∷ [])
-lines_spoken version [] l all good = (good, tt)
-lines_spoken version (d ∷ ls) l all good = (all.0, lines_spoken version ls l all.1 good)
+lines_spoken : (ls : List Line) (l : Line) → AllByRecursion (λ (l : Line). IsSpoken l.what) ls → IsSpoken l.what
+    → AllByRecursion (λ (l : Line). IsSpoken l.what) (ls ++ l ∷ [])
+lines_spoken [] l all good = (good, tt)
+lines_spoken (d ∷ ls) l all good = (all.0, lines_spoken ls l all.1 good)
 
-clients_spoken : (version : ℕ) (cs : List Client) (name : List ℕ) → AreSpoken version cs → AreSpoken version (cs ++ (record { name = name; lines = [] }) ∷ [])
-clients_spoken version [] name all = (tt, tt)
-clients_spoken version (c ∷ cs) name all = (all.0, clients_spoken version cs name all.1)
+clients_spoken : (cs : List Client) (name : List ℕ) → AreSpoken cs → AreSpoken (cs ++ (record { name = name; lines = [] }) ∷ [])
+clients_spoken [] name all = (tt, tt)
+clients_spoken (c ∷ cs) name all = (all.0, clients_spoken cs name all.1)
 
-onto_spoken : (version : ℕ) (cs : List Client) (l : Line) → AreSpoken version cs → IsSpoken version l.what → AreSpoken version (onto_last cs l)
-onto_spoken version [] l all good = tt
-onto_spoken version (c ∷ []) l all good = (lines_spoken version c.lines l all.0 good, tt)
-onto_spoken version (c ∷ d ∷ more) l all good = (all.0, onto_spoken version (d ∷ more) l all.1 good)
+onto_spoken : (cs : List Client) (l : Line) → AreSpoken cs → IsSpoken l.what → AreSpoken (onto_last cs l)
+onto_spoken [] l all good = tt
+onto_spoken (c ∷ []) l all good = (lines_spoken c.lines l all.0 good, tt)
+onto_spoken (c ∷ d ∷ more) l all good = (all.0, onto_spoken (d ∷ more) l all.1 good)
 
-spoken_step : (version : ℕ) (p : Body) (s : Said) → AreSpoken version p.clients → IsSaid version s → AreSpoken version (with_line p s).clients
-spoken_step version p (said.Client name) all good = clients_spoken version p.clients name all
-spoken_step version p (said.Does line what) all good = onto_spoken version p.clients (record { line = line; what = what }) all good
-spoken_step version p _ all good = all
+spoken_step : (p : Body) (s : Said) → AreSpoken p.clients → IsSaid s → AreSpoken (with_line p s).clients
+spoken_step p (said.Client name) all good = clients_spoken p.clients name all
+spoken_step p (said.Does line what) all good = onto_spoken p.clients (record { line = line; what = what }) all good
+spoken_step p _ all good = all
 
 -- ---- all that is known
 
 pub record IsHeard (lines : List Said) : Type 0 where
   pub capacity : (header_of lines).capacity < 2 ^ 32
-  pub spoken : AreSpoken (header_of lines).version (body_of lines).clients
+  pub spoken : AreSpoken (body_of lines).clients
 
-noted_capacity : (h : Header) (version : ℕ) (s : Said) → h.capacity < 2 ^ 32 → IsSaid version s → (noted h s).capacity < 2 ^ 32
-noted_capacity h version (said.Codfs v) old good = old
-noted_capacity h version (said.Nodes nodes capacity) old good = good
-noted_capacity h version (said.Code n k) old good = old
-noted_capacity h version (said.Block b) old good = old
-noted_capacity h version (said.Update u) old good = old
-noted_capacity h version (said.Reserve r) old good = old
-noted_capacity h version (said.Unit x) old good = old
-noted_capacity h version (said.Alpha a) old good = old
-noted_capacity h version _ old good = old
+noted_capacity : (h : Header) (s : Said) → h.capacity < 2 ^ 32 → IsSaid s → (noted h s).capacity < 2 ^ 32
+noted_capacity h (said.Codfs v) old good = old
+noted_capacity h (said.Nodes nodes capacity) old good = good
+noted_capacity h (said.Code n k) old good = old
+noted_capacity h (said.Block b) old good = old
+noted_capacity h (said.Update u) old good = old
+noted_capacity h (said.Reserve r) old good = old
+noted_capacity h (said.Unit x) old good = old
+noted_capacity h (said.Alpha a) old good = old
+noted_capacity h _ old good = old
 
 -- a line that was carried
 record IsTaken (n : ℕ) (before : List Said) (s : Said) : Type 0 where
   pub adds : Adds n before s
-  pub good : IsSaid (header_of before).version s
+  pub good : IsSaid s
 
-heard_more : (before : List Said) (s : Said) → IsSound (before ++ s ∷ []) → IsHeard before → IsSaid (header_of before).version s → IsHeard (before ++ s ∷ [])
+heard_more : (before : List Said) (s : Said) → IsSound (before ++ s ∷ []) → IsHeard before → IsSaid s → IsHeard (before ++ s ∷ [])
 heard_more before s now h good = elim (cases_lt (length before) 8) [
   | inl lt ↦
       let n = length_more before s in
       let bare : body_of (before ++ s ∷ []) ≡ no_body = now.bare (omega (arith, n, lt)) in
       record {
-        capacity = rw (header_early before s lt) (noted_capacity (header_of before) _ s h.capacity good);
+        capacity = rw (header_early before s lt) (noted_capacity (header_of before) s h.capacity good);
         spoken = rw bare tt;
       }
   | inr late ↦
       let same = header_late before s late in
       record {
         capacity = rw same h.capacity;
-        spoken = rw (same, body_more before s) (spoken_step (header_of before).version (body_of before) s h.spoken good);
+        spoken = rw (body_more before s) (spoken_step (body_of before) s h.spoken good);
       }
 ]
 
@@ -165,8 +165,8 @@ words_carried : (before : List Said) (n : ℕ) (first : List ℕ) (ws : List (Li
     → IfOk (words_say before n first ws) (IsTaken n before)
 unfolding words_say
 words_carried before n first ws le smaller short =
-    bind (words_mean before n first ws) _ (λ s. IsSaidAt n before s × IsSaid (header_of before).version s) (IsTaken n before)
-    (also (words_mean before n first ws) (IsSaidAt n before) (IsSaid (header_of before).version) (words_in before n first ws le smaller) (words_good before n first ws short))
+    bind (words_mean before n first ws) _ (λ s. IsSaidAt n before s × IsSaid s) (IsTaken n before)
+    (also (words_mean before n first ws) (IsSaidAt n before) IsSaid (words_in before n first ws le smaller) (words_good before n first ws short))
     (λ s both. carried_in before s (IsTaken n before) (λ c. record { adds = (both.0, c); good = both.1 }))
 
 -- what is kept from line to line, where this is the number of the next

@@ -16,7 +16,7 @@ use Rattle.cod_script.specs.Script.{Script, Client, nobody, Body}
 use Rattle.cod_scenario.specs.Lines.{header_of, body_of, script_of, script_with, line_weight, holds}
 use Rattle.cod_scenario.specs.Judge.{lines_say, to_end, text_says, last_of}
 use Rattle.cod_scenario.specs.Reads.{reads}
-use Rattle.cod_script.specs.Sound.{IsScenario, IsClient, IsLine}
+use Rattle.cod_script.specs.Sound.{IsScenario, IsClient, IsLine, IsDated, IsDatedClient}
 use Rattle.cod_script.specs.Text.{canonical_text, header_text, segment_text, client_text, care_text, schedule_text}
 use Rattle.cod_scenario.proofs.TextSound.{text_is_scenario}
 use Rattle.cod_canonical.specs.Again.{unnumbered, unnumbered_client, IsReadAgain}
@@ -55,17 +55,23 @@ is_head p i most = record {
   most_alpha = i.shape.most_alpha;
 }
 
-good_lines : (h : Header) (segments : ℕ) (ls : List Line) → All (IsLine h.nodes segments) ls → AllByRecursion (λ (l : Line). IsSpoken h.version l.what) ls
-    → AllByRecursion (IsGoodLine h segments) ls
-good_lines h segments [] there spoken = tt
-good_lines h segments (l ∷ ls) there spoken =
-    let first = there 0 l (omega arith) in
-    ((first.1, spoken.0), good_lines h segments ls (All-tail (IsLine h.nodes segments) l ls there) spoken.1)
+good_lines : (h : Header) (segments : ℕ) (ls : List Line) → All (IsLine h.nodes segments) ls → All (λ l. IsDated h.version l.what) ls
+    → AllByRecursion (λ (l : Line). IsSpoken l.what) ls → AllByRecursion (IsGoodLine h segments) ls
+good_lines h segments [] there dated spoken = tt
+good_lines h segments (l ∷ ls) there dated spoken =
+    let first = there 0 l (omega arith) in (
+      (first.1, dated 0 l (omega arith), spoken.0),
+      good_lines h segments ls (All-tail (IsLine h.nodes segments) l ls there) (All-tail (λ (x : Line). IsDated h.version x.what) l ls dated) spoken.1,
+    )
 
-good_clients : (h : Header) (segments : ℕ) (cs : List Client) → All (IsClient h.nodes segments) cs → AreSpoken h.version cs → AllByRecursion (IsGoodClient h segments) cs
-good_clients h segments [] all spoken = tt
-good_clients h segments (c ∷ cs) all spoken =
-    let first = all 0 c (omega arith) in (good_lines h segments c.lines first.1 spoken.0, good_clients h segments cs (All-tail (IsClient h.nodes segments) c cs all) spoken.1)
+good_clients : (h : Header) (segments : ℕ) (cs : List Client) → All (IsClient h.nodes segments) cs → All (IsDatedClient h.version) cs → AreSpoken cs
+    → AllByRecursion (IsGoodClient h segments) cs
+good_clients h segments [] all dated spoken = tt
+good_clients h segments (c ∷ cs) all dated spoken =
+    let first = all 0 c (omega arith) in (
+      good_lines h segments c.lines first.1 (dated 0 c (omega arith)) spoken.0,
+      good_clients h segments cs (All-tail (IsClient h.nodes segments) c cs all) (All-tail (IsDatedClient h.version) c cs dated) spoken.1,
+    )
 
 client_names_good : (nodes segments : ℕ) (cs : List Client) → All (IsClient nodes segments) cs → All (λ name. is_name name ≡ true) (map name_of cs)
 client_names_good nodes segments cs all i d lt =
@@ -78,7 +84,7 @@ client_names_good nodes segments cs all i d lt =
 pub record IsReadable (h : Header) (q : Body) : Type 0 where
   pub scenario : IsScenario (script_with h q)
   pub capacity : h.capacity < 2 ^ 32
-  pub spoken : AreSpoken h.version q.clients
+  pub spoken : AreSpoken q.clients
   pub light : parts_weight h q ≤ 268435456
   pub room : holds h (length q.segments) ≡ true
 
@@ -119,7 +125,7 @@ whole_reaches h (name ∷ names) (c ∷ cs) schedule workers rounds i =
     (subst (λ (l : Option Said). MayCome h.version l key.Segment) (sym ha.1) (after_alpha h.version h.alpha))) (λ b m hb.
     goes_on b m (flat_map (client_text segments) clients) _ (EndsAmong h (clients_only segments bare) care) End
     (clients_reach h segments (map name_of clients) [] c cs care b m segment_names i.scenario.most_nodes refl client_names (omega (arith, n, most))
-    (good_clients h (length segments) clients i.scenario.clients i.spoken) hb.0 hb.1) (λ d m hd.
+    (good_clients h (length segments) clients i.scenario.clients i.scenario.dated i.spoken) hb.0 hb.1) (λ d m hd.
     goes_on d m (care_text workers rounds) _ (EndsAfter h (with_care (clients_only segments bare) workers rounds) 0) End
     (care_reaches h segments bare workers rounds 0 d m i.scenario.most_workers i.scenario.most_rounds hd.0 hd.1) (λ e m he.
     goes_on e m (schedule_text clients schedule) _ (EndsAfter h (all_parts segments bare schedule workers rounds) 0) End

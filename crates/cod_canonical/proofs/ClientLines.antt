@@ -2,6 +2,7 @@
 use Rattle.std.proofs.Common.{◌≡◌, ℕ, ◌+◌, ◌<◌, ◌≤◌, ◌^◌, true, false, List, [], ◌∷◌, length, refl, ◌∙◌, arith, Ok, Option, Some}
 use Rattle.std.specs.Prelude.{nat_eq, slice_index, slice_index_or, codes, decimal}
 use Rattle.std.specs.List.{All, AllByRecursion}
+use Rattle.std.proofs.lemmas.Bool.{eq-eqb}
 use Rattle.cod_types.specs.declared.call.Call.{Call}
 use Rattle.cod_types.specs.declared.call.Call.TheVariants as calls
 use Rattle.cod_words.specs.Words.{is_name}
@@ -19,7 +20,7 @@ use Rattle.cod_scenario.specs.Judge.{keyword_of, may_follow, among_clients, rest
 use Rattle.cod_scenario.specs.Judge.{is_end, last_of}
 use Rattle.cod_scenario.specs.Lines.{client_names, line_weight, with_line}
 use Rattle.cod_script.specs.Script.{Body}
-use Rattle.cod_script.specs.Sound.{AllDiffer, IsThere}
+use Rattle.cod_script.specs.Sound.{AllDiffer, IsThere, IsDated}
 use Rattle.cod_script.specs.Text.{line_text, what_text}
 use Rattle.cod_canonical.proofs.Texts.{IsClear}
 use Rattle.cod_canonical.proofs.Fields.{decimal_is_clear, number_back, node_back, name_is_clear, known_back}
@@ -28,20 +29,20 @@ use Rattle.cod_canonical.proofs.Steps.{Reaches, Stands, there_reaches}
 
 -- ---- what a line of a client can hold
 
-abbrev pub IsSpokenCall : ℕ → Call → Type 0
-IsSpokenCall version (calls.Read off len) = (off < 2 ^ 32) × (len < 2 ^ 32)
-IsSpokenCall version (calls.Write off bytes) = (off < 2 ^ 32) × IsData bytes
-IsSpokenCall version (calls.Swap off old new) = (off < 2 ^ 32) × IsData old × IsData new
-IsSpokenCall version (calls.Put bytes) = IsData bytes
-IsSpokenCall version calls.Merge = Unit {0}
-IsSpokenCall version calls.Tick = Unit {0}
-IsSpokenCall version calls.Rebuild = Unit {0}
-IsSpokenCall version calls.Upgrade = nat_eq version 2 ≡ true
-IsSpokenCall version (calls.Drain node) = Unit {0}
+abbrev pub IsSpokenCall : Call → Type 0
+IsSpokenCall (calls.Read off len) = (off < 2 ^ 32) × (len < 2 ^ 32)
+IsSpokenCall (calls.Write off bytes) = (off < 2 ^ 32) × IsData bytes
+IsSpokenCall (calls.Swap off old new) = (off < 2 ^ 32) × IsData old × IsData new
+IsSpokenCall (calls.Put bytes) = IsData bytes
+IsSpokenCall calls.Merge = Unit {0}
+IsSpokenCall calls.Tick = Unit {0}
+IsSpokenCall calls.Rebuild = Unit {0}
+IsSpokenCall calls.Upgrade = Unit {0}
+IsSpokenCall (calls.Drain node) = Unit {0}
 
-abbrev pub IsSpoken : ℕ → What → Type 0
-IsSpoken version (Segment seg call) = IsSpokenCall version call
-IsSpoken version (Fail node) = Unit {0}
+abbrev pub IsSpoken : What → Type 0
+IsSpoken (Segment seg call) = IsSpokenCall call
+IsSpoken (Fail node) = Unit {0}
 
 -- names, no two of them one
 pub record AreNames (names : List (List ℕ)) : Type 0 where
@@ -153,11 +154,11 @@ module _ (h : Header) (names : List (List ℕ)) (good : AreNames names) (few : h
   rebuild_speaks seg lt =
       record { clear = record { some = refl; clear = refl }; no_comment = refl; words = (word_clear seg lt, tt); keyword = refl; stands = refl; read = plain_read seg calls.Rebuild lt }
 
-  upgrade_speaks : (seg : ℕ) → seg < length names → nat_eq h.version 2 ≡ true
+  upgrade_speaks : (seg : ℕ) → seg < length names → h.version ≡ 2
       → Speaks h names (codes "upgrade") (slice_index_or names seg [] ∷ []) verb.Upgrade (Segment (record { 0 = seg }) calls.Upgrade)
   unfolding what_says
   upgrade_speaks seg lt two =
-      record { clear = record { some = refl; clear = refl }; no_comment = refl; words = (word_clear seg lt, tt); keyword = refl; stands = two; read = plain_read seg calls.Upgrade lt }
+      record { clear = record { some = refl; clear = refl }; no_comment = refl; words = (word_clear seg lt, tt); keyword = refl; stands = eq-eqb h.version 2 two; read = plain_read seg calls.Upgrade lt }
 
   drain_speaks : (seg x : ℕ) → seg < length names → x < h.nodes
       → Speaks h names (codes "drain") (slice_index_or names seg [] ∷ decimal x ∷ []) verb.Drain (Segment (record { 0 = seg }) (calls.Drain (record { 0 = x })))
@@ -203,15 +204,15 @@ module _ (before : List Said) (n : ℕ) (h : Header) (q : Body) (left : ℕ) (la
         placed = refl;
       })
 
-  pub what_reaches : (what : What) → Stands h q (line_weight h (said.Does 0 what) + left) before → IsThere h.nodes (length q.segments) what → IsSpoken h.version what
-      → Reaches before n (what_text q.segments what) (λ now. Stands h (with_line q (said.Does 0 what)) left now × (last_of now ≡ Some (said.Does n what)))
-  what_reaches (Segment seg (calls.Read off len)) i t s = speaks_reaches _ _ verb.Read _ i (read_speaks h q.segments good few seg.0 off len t.0 s.0 s.1)
-  what_reaches (Segment seg (calls.Write off bytes)) i t s = speaks_reaches _ _ verb.Write _ i (write_speaks h q.segments good few seg.0 off bytes t.0 s.0 s.1)
-  what_reaches (Segment seg (calls.Swap off old new)) i t s = speaks_reaches _ _ verb.Swap _ i (swap_speaks h q.segments good few seg.0 off old new t.0 s.0 s.1 s.2)
-  what_reaches (Segment seg (calls.Put bytes)) i t s = speaks_reaches _ _ verb.Put _ i (put_speaks h q.segments good few seg.0 bytes t.0 s)
-  what_reaches (Segment seg calls.Merge) i t s = speaks_reaches _ _ verb.Merge _ i (merge_speaks h q.segments good few seg.0 t.0)
-  what_reaches (Segment seg calls.Tick) i t s = speaks_reaches _ _ verb.Tick _ i (tick_speaks h q.segments good few seg.0 t.0)
-  what_reaches (Segment seg calls.Rebuild) i t s = speaks_reaches _ _ verb.Rebuild _ i (rebuild_speaks h q.segments good few seg.0 t.0)
-  what_reaches (Segment seg calls.Upgrade) i t s = speaks_reaches _ _ verb.Upgrade _ i (upgrade_speaks h q.segments good few seg.0 t.0 s)
-  what_reaches (Segment seg (calls.Drain node)) i t s = speaks_reaches _ _ verb.Drain _ i (drain_speaks h q.segments good few seg.0 node.0 t.0 t.1)
-  what_reaches (Fail node) i t s = speaks_reaches _ _ verb.Fail _ i (fail_speaks h q.segments good few node.0 t)
+  pub what_reaches : (what : What) → Stands h q (line_weight h (said.Does 0 what) + left) before → IsThere h.nodes (length q.segments) what → IsDated h.version what
+      → IsSpoken what → Reaches before n (what_text q.segments what) (λ now. Stands h (with_line q (said.Does 0 what)) left now × (last_of now ≡ Some (said.Does n what)))
+  what_reaches (Segment seg (calls.Read off len)) i t d s = speaks_reaches _ _ verb.Read _ i (read_speaks h q.segments good few seg.0 off len t.0 s.0 s.1)
+  what_reaches (Segment seg (calls.Write off bytes)) i t d s = speaks_reaches _ _ verb.Write _ i (write_speaks h q.segments good few seg.0 off bytes t.0 s.0 s.1)
+  what_reaches (Segment seg (calls.Swap off old new)) i t d s = speaks_reaches _ _ verb.Swap _ i (swap_speaks h q.segments good few seg.0 off old new t.0 s.0 s.1 s.2)
+  what_reaches (Segment seg (calls.Put bytes)) i t d s = speaks_reaches _ _ verb.Put _ i (put_speaks h q.segments good few seg.0 bytes t.0 s)
+  what_reaches (Segment seg calls.Merge) i t d s = speaks_reaches _ _ verb.Merge _ i (merge_speaks h q.segments good few seg.0 t.0)
+  what_reaches (Segment seg calls.Tick) i t d s = speaks_reaches _ _ verb.Tick _ i (tick_speaks h q.segments good few seg.0 t.0)
+  what_reaches (Segment seg calls.Rebuild) i t d s = speaks_reaches _ _ verb.Rebuild _ i (rebuild_speaks h q.segments good few seg.0 t.0)
+  what_reaches (Segment seg calls.Upgrade) i t d s = speaks_reaches _ _ verb.Upgrade _ i (upgrade_speaks h q.segments good few seg.0 t.0 d)
+  what_reaches (Segment seg (calls.Drain node)) i t d s = speaks_reaches _ _ verb.Drain _ i (drain_speaks h q.segments good few seg.0 node.0 t.0 t.1)
+  what_reaches (Fail node) i t d s = speaks_reaches _ _ verb.Fail _ i (fail_speaks h q.segments good few node.0 t)

@@ -15,7 +15,7 @@ use Rattle.cod_scenario.specs.declared.said.Said.TheVariants as said
 use Rattle.cod_scenario.specs.Judge.{may_follow, rest_says, added_name, segment_line, client_line, is_end, last_of}
 use Rattle.cod_scenario.specs.Lines.{no_body, line_weight, with_line, holds}
 use Rattle.cod_script.specs.Script.{Body, onto_last, Client}
-use Rattle.cod_script.specs.Sound.{AllDiffer, IsThere}
+use Rattle.cod_script.specs.Sound.{AllDiffer, IsThere, IsDated}
 use Rattle.cod_script.specs.Text.{line_text, what_text, client_text, segment_text}
 use Rattle.cod_canonical.specs.Again.{unnumbered_line, unnumbered_client}
 use Rattle.cod_canonical.proofs.Fields.{name_is_clear, new_back}
@@ -125,7 +125,7 @@ onto_seam (d ∷ e ∷ more) c l = ap (λ x. d ∷ x) (onto_seam (e ∷ more) c 
 
 -- what is known of each line of a client
 abbrev pub IsGoodLine : Header → ℕ → Line → Type 0
-IsGoodLine h segments l = IsThere h.nodes segments l.what × IsSpoken h.version l.what
+IsGoodLine h segments l = IsThere h.nodes segments l.what × IsDated h.version l.what × IsSpoken l.what
 
 abbrev pub EndsAmong : Header → Body → ℕ → List Said → Type 0
 EndsAmong h q left lines = Stands h q left lines × IsAmong h.version (last_of lines)
@@ -144,7 +144,7 @@ lines_reach h names done name ls (l ∷ rest) left before n good few all i among
     goes_on before n (what_text names l.what) (flat_map (λ l. what_text names l.what) rest)
     (λ now. Stands h (with_line q (said.Does 0 l.what)) (lines_weight h rest + left) now × (last_of now ≡ Some (said.Does n l.what)))
     (EndsAmong h (clients_only names (done ++ client_with name (ls ++ unnumbered_line l ∷ map unnumbered_line rest) ∷ [])) left)
-    (what_reaches before n h q (lines_weight h rest + left) (last_of before) good few refl among l.what start all.0.0 all.0.1)
+    (what_reaches before n h q (lines_weight h rest + left) (last_of before) good few refl among l.what start all.0.0 all.0.1 all.0.2)
     (λ now m was.
     let next : Stands h (clients_only names (done ++ client_with name (ls ++ unnumbered_line l ∷ []) ∷ [])) (lines_weight h rest + left) now =
     leaves was.0 (ap (clients_only names) (onto_seam done (client_with name ls) (unnumbered_line l))) (omega arith) in

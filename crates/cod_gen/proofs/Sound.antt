@@ -17,7 +17,7 @@ use Rattle.cod_script.specs.declared.line.What.{What}
 use Rattle.cod_script.specs.declared.line.What.TheVariants.{Fail}
 use Rattle.cod_script.specs.Room.{column_on, taken_by, taken_on, has_room}
 use Rattle.cod_script.specs.Script.{Client}
-use Rattle.cod_script.specs.Sound.{IsThere, IsLine, IsClient, line_count, AllDiffer, NumbersRise, line_numbers, IsScenario}
+use Rattle.cod_script.specs.Sound.{IsThere, IsLine, IsClient, IsDated, IsDatedClient, line_count, AllDiffer, NumbersRise, line_numbers, IsScenario}
 use Rattle.cod_script.specs.Weight.{call_weight, what_weight, lines_weight, clients_weight, weight}
 use Rattle.cod_script.proofs.RoomSums.{room_at}
 use Rattle.cod_gen.specs.Drawn.{after, drawn}
@@ -80,10 +80,10 @@ names_differ letter n most i j li lj e =
     let r = one_name letter (0 + i) (0 + j) (omega (arith, a, most)) (omega (arith, b, most)) same in
     omega (arith, r)
 
--- ---- the lines name what is there
+-- ---- the lines name what is there, and none asks for an upgrade
 
 abbrev There : What → Type 0
-There = IsThere 12 40
+There what = IsThere 12 40 what × IsDated 1 what
 
 each-append : {A : Type 0} (P : A → Type 0) (xs ys : List A) → AllByRecursion P xs → AllByRecursion P ys → AllByRecursion P (xs ++ ys)
 each-append P [] ys a b = b
@@ -106,19 +106,19 @@ care_there : (client round : ℕ) → AllByRecursion There (care_lines client ro
 care_there client round =
     by (nat_eq client 0 && nat_eq round 99) (nat_eq client 0 && nat_eq round 199) (nat_eq client 1 && nat_eq round 49) (nat_eq client 1 && nat_eq round 149) where
       by : (a b c d : Bool) → AllByRecursion There (cond a (fail_and_rebuild 3) (cond b (fail_and_rebuild 7) (cond c (on_each Merge) (cond d (on_each Tick) []))))
-      by true b c d = (omega arith, each_there Rebuild (λ s lt. (lt, tt, tt)))
-      by false true c d = (omega arith, each_there Rebuild (λ s lt. (lt, tt, tt)))
-      by false false true d = each_there Merge (λ s lt. (lt, tt, tt))
-      by false false false true = each_there Tick (λ s lt. (lt, tt, tt))
+      by true b c d = ((omega arith, tt), each_there Rebuild (λ s lt. ((lt, tt, tt), tt)))
+      by false true c d = ((omega arith, tt), each_there Rebuild (λ s lt. ((lt, tt, tt), tt)))
+      by false false true d = each_there Merge (λ s lt. ((lt, tt, tt), tt))
+      by false false false true = each_there Tick (λ s lt. ((lt, tt, tt), tt))
       by false false false false = tt
 
 write_there : (x : ℕ) → There (write_line x)
-write_there x = (omega arith, tt, bytes_of 64 (drawn 256 (after 2 x)) (omega arith))
+write_there x = ((omega arith, tt, bytes_of 64 (drawn 256 (after 2 x)) (omega arith)), tt)
 
 reads_there : (round x : ℕ) → AllByRecursion There (reads_lines round x)
 reads_there round x = by (nat_eq (round % 10) 9) where
   by : (b : Bool) → AllByRecursion There (cond b (read_line x ∷ []) [])
-  by true = ((omega arith, tt, tt), tt)
+  by true = (((omega arith, tt, tt), tt), tt)
   by false = tt
 
 round_there : (client round x : ℕ) → AllByRecursion There (round_lines client round x)
@@ -131,7 +131,11 @@ client_there number client = each-flat There (λ round. round_lines client round
 
 numbered_there : (n : ℕ) (ws : List What) → 1 ≤ n → AllByRecursion There ws → AllByRecursion (IsLine 12 40) (numbered n ws)
 numbered_there n [] le a = tt
-numbered_there n (w ∷ ws) le a = ((le, a.0), numbered_there (n + 1) ws (omega (arith, le)) a.1)
+numbered_there n (w ∷ ws) le a = ((le, a.0.0), numbered_there (n + 1) ws (omega (arith, le)) a.1)
+
+numbered_dated : (n : ℕ) (ws : List What) → AllByRecursion There ws → AllByRecursion (λ (l : Line). IsDated 1 l.what) (numbered n ws)
+numbered_dated n [] a = tt
+numbered_dated n (w ∷ ws) a = (a.0.1, numbered_dated (n + 1) ws a.1)
 
 numbered_length : (n : ℕ) (ws : List What) → length (numbered n ws) ≡ length ws
 numbered_length n [] = refl
@@ -143,6 +147,11 @@ client_sound number c lt = (
   All-from_recursion (IsLine 12 40) (numbered (line_ahead number c + 1) (client_lines number c))
       (numbered_there (line_ahead number c + 1) (client_lines number c) (omega arith) (client_there number c)),
 )
+
+client_dated : (number c : ℕ) → IsDatedClient 1 (client_of number c)
+client_dated number c =
+    All-from_recursion (λ (l : Line). IsDated 1 l.what) (numbered (line_ahead number c + 1) (client_lines number c))
+    (numbered_dated (line_ahead number c + 1) (client_lines number c) (client_there number c))
 
 -- ---- few lines
 
@@ -339,6 +348,10 @@ clients_sound : (number : ℕ) → All (IsClient 12 40) (all_clients number)
 unfolding all_clients
 clients_sound number = All-from_recursion (IsClient 12 40) (all_clients number) (table-all (client_of number) (IsClient 12 40) 0 8 (λ i l u. client_sound number i (omega (arith, u))))
 
+clients_dated : (number : ℕ) → All (IsDatedClient 1) (all_clients number)
+unfolding all_clients
+clients_dated number = All-from_recursion (IsDatedClient 1) (all_clients number) (table-all (client_of number) (IsDatedClient 1) 0 8 (λ i l u. client_dated number i))
+
 clients_differ : (number : ℕ) → AllDiffer (map (λ c. c.name) (all_clients number))
 unfolding all_clients
 clients_differ number = subst AllDiffer (sym (names 0 8)) (names_differ 99 8 (omega arith)) where
@@ -363,6 +376,7 @@ generated_is_scenario number =
       some_clients = omega (arith, c);
       most_clients = omega (arith, c);
       clients = subst (λ (n : ℕ). All (IsClient 12 n) (all_clients number)) (sym s) (clients_sound number);
+      dated = clients_dated number;
       clients_differ = clients_differ number;
       few_lines = few number;
       lines_rise = rise number;

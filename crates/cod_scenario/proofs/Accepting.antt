@@ -3,7 +3,7 @@ use Rattle.std.proofs.Common.{◌≡◌, ℕ, ◌<◌, ◌≤◌, Bool, true, fa
 use Rattle.std.specs.Prelude.{nat_le, nat_lt, ◌&&◌, IfOk}
 use Rattle.std.specs.List.{All, list_any, position}
 use Rattle.std.specs.Str.{bytes_eq}
-use Rattle.std.proofs.lemmas.Bool.{leb-true, ltb-true, false≢true}
+use Rattle.std.proofs.lemmas.Bool.{leb-true, ltb-true, eqb-true, false≢true}
 use Rattle.std.proofs.lemmas.List.Elements.{All-nil, All-cons}
 use Rattle.std.proofs.lemmas.List.Quantifiers.{position-Some}
 use Rattle.cod_words.specs.Words.{is_name}
@@ -23,7 +23,7 @@ use Rattle.cod_scenario.specs.Judge.{◌>>=◌, wants, found, number, field, kno
 use Rattle.cod_scenario.specs.Judge.{added_name, segment_line, client_line, read_line, write_line, swap_line, put_line, plain_line, drain_line, fail_line, care_line, schedule_line, end_line}
 use Rattle.cod_scenario.specs.Judge.{what_says, does_line, rest_says, words_mean, may_follow, last_of, is_end, keyword_of}
 use Rattle.hex.specs.Hex.{IsBytes}
-use Rattle.cod_script.specs.Sound.{HasBytes, IsThere, NamesNode}
+use Rattle.cod_script.specs.Sound.{HasBytes, IsThere, IsDated, IsDatedCall, NamesNode}
 use Rattle.cod_scenario.specs.Lines.{header_of, body_of, segments_of, clients_of, bytes_of, floor_of}
 use Rattle.cod_script.specs.Script.{Body}
 use Rattle.cod_scenario.specs.Reading.{AreBefore, HasSome, IsSaidAt, place_of}
@@ -241,74 +241,86 @@ client_in : (names ws : List (List ℕ)) (P : Said → Type 0) → ((name : List
 unfolding client_line
 client_in names ws P h = bind (added_name 64 names ws) _ (λ _. IsAdded 64 names (word ws 0)) P (added_in 64 names ws) (λ u a. h (word ws 0) a)
 
-read_in : (nodes : ℕ) (names ws : List (List ℕ)) → IfOk (read_line names ws) (IsThere nodes (length names))
+-- what a line of a client asks, where the version has it
+abbrev IsAsked : (version nodes segments : ℕ) → What → Type 0
+IsAsked version nodes segments what = IsThere nodes segments what × IsDated version what
+
+upgrade_version : (version : ℕ) (last : Option Said) → may_follow version last (key.Does verb.Upgrade) ≡ true → version ≡ 2
+unfolding may_follow
+upgrade_version version (Some (said.Client name)) e = eqb-true version 2 e
+upgrade_version version (Some (said.Does line what)) e = eqb-true version 2 e
+upgrade_version version _ e = absurd (false≢true e)
+
+read_in : (version nodes : ℕ) (names ws : List (List ℕ)) → IfOk (read_line names ws) (IsAsked version nodes (length names))
 unfolding read_line
-read_in nodes names ws =
-    bind (counted ws 3) _ Any (IsThere nodes (length names)) (any (counted ws 3)) (λ u _.
-    bind (known names (word ws 0)) _ (λ i. i < length names) (IsThere nodes (length names)) (known_in names (word ws 0)) (λ seg lt.
-    bind (number (word ws 1)) _ Any (IsThere nodes (length names)) (any (number (word ws 1))) (λ off _.
-    bind (number (word ws 2)) _ Any (IsThere nodes (length names)) (any (number (word ws 2))) (λ len _. (lt, tt, tt)))))
+read_in version nodes names ws =
+    bind (counted ws 3) _ Any (IsAsked version nodes (length names)) (any (counted ws 3)) (λ u _.
+    bind (known names (word ws 0)) _ (λ i. i < length names) (IsAsked version nodes (length names)) (known_in names (word ws 0)) (λ seg lt.
+    bind (number (word ws 1)) _ Any (IsAsked version nodes (length names)) (any (number (word ws 1))) (λ off _.
+    bind (number (word ws 2)) _ Any (IsAsked version nodes (length names)) (any (number (word ws 2))) (λ len _. ((lt, tt, tt), tt)))))
 
-write_in : (nodes : ℕ) (names ws : List (List ℕ)) → IfOk (write_line names ws) (IsThere nodes (length names))
+write_in : (version nodes : ℕ) (names ws : List (List ℕ)) → IfOk (write_line names ws) (IsAsked version nodes (length names))
 unfolding write_line
-write_in nodes names ws =
-    bind (counted ws 3) _ Any (IsThere nodes (length names)) (any (counted ws 3)) (λ u _.
-    bind (known names (word ws 0)) _ (λ i. i < length names) (IsThere nodes (length names)) (known_in names (word ws 0)) (λ seg lt.
-    bind (number (word ws 1)) _ Any (IsThere nodes (length names)) (any (number (word ws 1))) (λ off _.
-    bind (data_word (word ws 2)) _ IsBytes (IsThere nodes (length names)) (data_in (word ws 2)) (λ bytes b. (lt, tt, b)))))
+write_in version nodes names ws =
+    bind (counted ws 3) _ Any (IsAsked version nodes (length names)) (any (counted ws 3)) (λ u _.
+    bind (known names (word ws 0)) _ (λ i. i < length names) (IsAsked version nodes (length names)) (known_in names (word ws 0)) (λ seg lt.
+    bind (number (word ws 1)) _ Any (IsAsked version nodes (length names)) (any (number (word ws 1))) (λ off _.
+    bind (data_word (word ws 2)) _ IsBytes (IsAsked version nodes (length names)) (data_in (word ws 2)) (λ bytes b. ((lt, tt, b), tt)))))
 
-swap_in : (nodes : ℕ) (names ws : List (List ℕ)) → IfOk (swap_line names ws) (IsThere nodes (length names))
+swap_in : (version nodes : ℕ) (names ws : List (List ℕ)) → IfOk (swap_line names ws) (IsAsked version nodes (length names))
 unfolding swap_line
-swap_in nodes names ws =
-    bind (counted ws 4) _ Any (IsThere nodes (length names)) (any (counted ws 4)) (λ u _.
-    bind (known names (word ws 0)) _ (λ i. i < length names) (IsThere nodes (length names)) (known_in names (word ws 0)) (λ seg lt.
-    bind (number (word ws 1)) _ Any (IsThere nodes (length names)) (any (number (word ws 1))) (λ off _.
-    bind (data_word (word ws 2)) _ IsBytes (IsThere nodes (length names)) (data_in (word ws 2)) (λ before b.
-    bind (data_word (word ws 3)) _ IsBytes (IsThere nodes (length names)) (data_in (word ws 3)) (λ after a. (lt, tt, (b, a)))))))
+swap_in version nodes names ws =
+    bind (counted ws 4) _ Any (IsAsked version nodes (length names)) (any (counted ws 4)) (λ u _.
+    bind (known names (word ws 0)) _ (λ i. i < length names) (IsAsked version nodes (length names)) (known_in names (word ws 0)) (λ seg lt.
+    bind (number (word ws 1)) _ Any (IsAsked version nodes (length names)) (any (number (word ws 1))) (λ off _.
+    bind (data_word (word ws 2)) _ IsBytes (IsAsked version nodes (length names)) (data_in (word ws 2)) (λ before b.
+    bind (data_word (word ws 3)) _ IsBytes (IsAsked version nodes (length names)) (data_in (word ws 3)) (λ after a. ((lt, tt, (b, a)), tt))))))
 
-put_in : (nodes : ℕ) (names ws : List (List ℕ)) → IfOk (put_line names ws) (IsThere nodes (length names))
+put_in : (version nodes : ℕ) (names ws : List (List ℕ)) → IfOk (put_line names ws) (IsAsked version nodes (length names))
 unfolding put_line
-put_in nodes names ws =
-    bind (counted ws 2) _ Any (IsThere nodes (length names)) (any (counted ws 2)) (λ u _.
-    bind (known names (word ws 0)) _ (λ i. i < length names) (IsThere nodes (length names)) (known_in names (word ws 0)) (λ seg lt.
-    bind (data_word (word ws 1)) _ IsBytes (IsThere nodes (length names)) (data_in (word ws 1)) (λ bytes b. (lt, tt, b))))
+put_in version nodes names ws =
+    bind (counted ws 2) _ Any (IsAsked version nodes (length names)) (any (counted ws 2)) (λ u _.
+    bind (known names (word ws 0)) _ (λ i. i < length names) (IsAsked version nodes (length names)) (known_in names (word ws 0)) (λ seg lt.
+    bind (data_word (word ws 1)) _ IsBytes (IsAsked version nodes (length names)) (data_in (word ws 1)) (λ bytes b. ((lt, tt, b), tt))))
 
-plain_in : (nodes : ℕ) (call : Call) (names ws : List (List ℕ)) → NamesNode nodes call → HasBytes call → IfOk (plain_line call names ws) (IsThere nodes (length names))
+plain_in : (version nodes : ℕ) (call : Call) (names ws : List (List ℕ)) → NamesNode nodes call → HasBytes call → IsDatedCall version call → IfOk (plain_line call names ws) (IsAsked version nodes (length names))
 unfolding plain_line
-plain_in nodes call names ws n b =
-    bind (counted ws 1) _ Any (IsThere nodes (length names)) (any (counted ws 1)) (λ u _.
-    bind (known names (word ws 0)) _ (λ i. i < length names) (IsThere nodes (length names)) (known_in names (word ws 0)) (λ seg lt. (lt, n, b)))
+plain_in version nodes call names ws n b d =
+    bind (counted ws 1) _ Any (IsAsked version nodes (length names)) (any (counted ws 1)) (λ u _.
+    bind (known names (word ws 0)) _ (λ i. i < length names) (IsAsked version nodes (length names)) (known_in names (word ws 0)) (λ seg lt. ((lt, n, b), d)))
 
-drain_in : (nodes : ℕ) (names ws : List (List ℕ)) → IfOk (drain_line nodes names ws) (IsThere nodes (length names))
+drain_in : (version nodes : ℕ) (names ws : List (List ℕ)) → IfOk (drain_line nodes names ws) (IsAsked version nodes (length names))
 unfolding drain_line
-drain_in nodes names ws =
-    bind (counted ws 2) _ Any (IsThere nodes (length names)) (any (counted ws 2)) (λ u _.
-    bind (known names (word ws 0)) _ (λ i. i < length names) (IsThere nodes (length names)) (known_in names (word ws 0)) (λ seg lt.
-    bind (node nodes (word ws 1)) _ (λ x. x < nodes) (IsThere nodes (length names)) (node_in nodes (word ws 1)) (λ x below. (lt, below, tt))))
+drain_in version nodes names ws =
+    bind (counted ws 2) _ Any (IsAsked version nodes (length names)) (any (counted ws 2)) (λ u _.
+    bind (known names (word ws 0)) _ (λ i. i < length names) (IsAsked version nodes (length names)) (known_in names (word ws 0)) (λ seg lt.
+    bind (node nodes (word ws 1)) _ (λ x. x < nodes) (IsAsked version nodes (length names)) (node_in nodes (word ws 1)) (λ x below. ((lt, below, tt), tt))))
 
-fail_in : (nodes segments : ℕ) (ws : List (List ℕ)) → IfOk (fail_line nodes ws) (IsThere nodes segments)
+fail_in : (version nodes segments : ℕ) (ws : List (List ℕ)) → IfOk (fail_line nodes ws) (IsAsked version nodes segments)
 unfolding fail_line
-fail_in nodes segments ws =
-    bind (counted ws 1) _ Any (IsThere nodes segments) (any (counted ws 1)) (λ u _.
-    bind (node nodes (word ws 0)) _ (λ x. x < nodes) (IsThere nodes segments) (node_in nodes (word ws 0)) (λ x below. below))
+fail_in version nodes segments ws =
+    bind (counted ws 1) _ Any (IsAsked version nodes segments) (any (counted ws 1)) (λ u _.
+    bind (node nodes (word ws 0)) _ (λ x. x < nodes) (IsAsked version nodes segments) (node_in nodes (word ws 0)) (λ x below. (below, tt)))
 
-what_in : (hd : Header) (names : List (List ℕ)) (v : Verb) (ws : List (List ℕ)) → IfOk (what_says hd names v ws) (IsThere hd.nodes (length names))
+what_in : (hd : Header) (last : Option Said) (names : List (List ℕ)) (v : Verb) (ws : List (List ℕ)) → may_follow hd.version last (key.Does v) ≡ true
+    → IfOk (what_says hd names v ws) (IsAsked hd.version hd.nodes (length names))
 unfolding what_says
-what_in hd names verb.Read ws = read_in hd.nodes names ws
-what_in hd names verb.Write ws = write_in hd.nodes names ws
-what_in hd names verb.Swap ws = swap_in hd.nodes names ws
-what_in hd names verb.Put ws = put_in hd.nodes names ws
-what_in hd names verb.Merge ws = plain_in hd.nodes calls.Merge names ws tt tt
-what_in hd names verb.Tick ws = plain_in hd.nodes calls.Tick names ws tt tt
-what_in hd names verb.Rebuild ws = plain_in hd.nodes calls.Rebuild names ws tt tt
-what_in hd names verb.Upgrade ws = plain_in hd.nodes calls.Upgrade names ws tt tt
-what_in hd names verb.Drain ws = drain_in hd.nodes names ws
-what_in hd names verb.Fail ws = fail_in hd.nodes (length names) ws
+what_in hd last names verb.Read ws e = read_in hd.version hd.nodes names ws
+what_in hd last names verb.Write ws e = write_in hd.version hd.nodes names ws
+what_in hd last names verb.Swap ws e = swap_in hd.version hd.nodes names ws
+what_in hd last names verb.Put ws e = put_in hd.version hd.nodes names ws
+what_in hd last names verb.Merge ws e = plain_in hd.version hd.nodes calls.Merge names ws tt tt tt
+what_in hd last names verb.Tick ws e = plain_in hd.version hd.nodes calls.Tick names ws tt tt tt
+what_in hd last names verb.Rebuild ws e = plain_in hd.version hd.nodes calls.Rebuild names ws tt tt tt
+what_in hd last names verb.Upgrade ws e = plain_in hd.version hd.nodes calls.Upgrade names ws tt tt (upgrade_version hd.version last e)
+what_in hd last names verb.Drain ws e = drain_in hd.version hd.nodes names ws
+what_in hd last names verb.Fail ws e = fail_in hd.version hd.nodes (length names) ws
 
-does_in : (hd : Header) (names : List (List ℕ)) (line : ℕ) (v : Verb) (ws : List (List ℕ)) (P : Said → Type 0)
-    → ((what : What) → IsThere hd.nodes (length names) what → P (said.Does line what)) → IfOk (does_line hd names line v ws) P
+does_in : (hd : Header) (last : Option Said) (names : List (List ℕ)) (line : ℕ) (v : Verb) (ws : List (List ℕ)) (P : Said → Type 0) → may_follow hd.version last (key.Does v) ≡ true
+    → ((what : What) → IsAsked hd.version hd.nodes (length names) what → P (said.Does line what)) → IfOk (does_line hd names line v ws) P
 unfolding does_line
-does_in hd names line v ws P h = bind (what_says hd names v ws) _ (IsThere hd.nodes (length names)) P (what_in hd names v ws) (λ what t. h what t)
+does_in hd last names line v ws P e h =
+    bind (what_says hd names v ws) _ (IsAsked hd.version hd.nodes (length names)) P (what_in hd last names v ws e) (λ what t. h what t)
 
 care_in : (ws : List (List ℕ)) (P : Said → Type 0) → ((workers rounds : ℕ) → workers ≤ 16 → rounds ≤ 65536 → P (said.Care workers rounds)) → IfOk (care_line ws) P
 unfolding care_line
@@ -360,8 +372,8 @@ rest_accepts before line key.Client ws le smaller e =
     client_in (clients_of before) ws (IsSaidAt line before)
     (λ name a. record { accepts = record { order = follows_place _ _ _ e; needs = λ h. follows_needs _ _ _ (body_of before) e h; fresh = (a.1, a.2); good = a.0; later = tt }; numbered = tt })
 rest_accepts before line (key.Does v) ws le smaller e =
-    does_in (header_of before) (segments_of before) line v ws (IsSaidAt line before)
-    (λ what t. record { accepts = record { order = follows_place _ _ _ e; needs = λ h. follows_needs _ _ _ (body_of before) e h; fresh = tt; good = (le, t); later = smaller }; numbered = refl })
+    does_in (header_of before) (last_of before) (segments_of before) line v ws (IsSaidAt line before) e
+    (λ what t. record { accepts = record { order = follows_place _ _ _ e; needs = λ h. follows_needs _ _ _ (body_of before) e h; fresh = tt; good = (le, t.0, t.1); later = smaller }; numbered = refl })
 rest_accepts before line key.Care ws le smaller e =
     care_in ws (IsSaidAt line before)
     (λ workers rounds a b. record { accepts = record { order = follows_place _ _ _ e; needs = λ h. follows_needs _ _ _ (body_of before) e h; fresh = tt; good = (a, b); later = tt }; numbered = tt })

@@ -66,6 +66,7 @@ whole n lines i e fewer most =
       some_clients = some.1;
       most_clients = i.body.most_clients;
       clients = i.body.clients;
+      dated = i.body.dated;
       clients_differ = i.body.clients_differ;
       few_lines = omega (arith, a, b, count, fewer, most);
       lines_rise = i.body.lines_rise;

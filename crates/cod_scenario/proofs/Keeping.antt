@@ -115,7 +115,7 @@ nothing_sound = record {
   header = tt;
   bare = λ le. refl;
   some = tt;
-  body = no_body_in (header_of []).nodes;
+  body = no_body_in (header_of []);
   count = λ le. absurd (omega (arith, le));
   weighed = let e = no_weight (header_of []) in omega (arith, e);
   light = omega arith;

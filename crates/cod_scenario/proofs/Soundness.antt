@@ -20,7 +20,7 @@ use Rattle.cod_scenario.specs.declared.said.Said.TheVariants as said
 use Rattle.cod_scenario.specs.Judge.{is_placed, last_of}
 use Rattle.cod_script.specs.Script.{Client, Body, onto_last}
 use Rattle.cod_scenario.specs.Lines.{header_of, body_of, no_body, with_line, noted, segments_of, clients_of, client_names, script_with, weight_of}
-use Rattle.cod_script.specs.Sound.{AllDiffer, IsThere, IsLine, IsClient, line_count}
+use Rattle.cod_script.specs.Sound.{AllDiffer, IsThere, IsLine, IsClient, IsDated, IsDatedClient, line_count}
 use Rattle.cod_script.specs.Weight.{weight}
 use Rattle.cod_scenario.specs.Reading.{IsGood, IsFresh, Accepts, HasSome, Needs, place_of, rank_of, IsHeader, IsBodyIn, IsCarried, IsLater, IsSound}
 use Rattle.cod_script.proofs.Lines_added.{longer}
@@ -155,13 +155,14 @@ differ_push names name d new i j li lj e =
 none_differ : AllDiffer []
 none_differ i j li lj e = absurd (omega (arith, li))
 
-pub no_body_in : (nodes : ℕ) → IsBodyIn nodes no_body
-no_body_in nodes = record {
+pub no_body_in : (h : Header) → IsBodyIn h no_body
+no_body_in h = record {
   most_segments = omega arith;
   segment_names = All-nil (λ name. is_name name ≡ true);
   segments_differ = none_differ;
   most_clients = omega arith;
-  clients = All-nil (IsClient nodes 0);
+  clients = All-nil (IsClient h.nodes 0);
+  dated = All-nil (IsDatedClient h.version);
   clients_differ = none_differ;
   lines_rise = tt;
   turns = All-nil (λ t. t < 0);
@@ -169,9 +170,9 @@ no_body_in nodes = record {
   most_rounds = omega arith;
 }
 
-body_step : (h : Header) (p : Body) (s : Said) → IsBodyIn h.nodes p → IsFresh p.segments (client_names p) s
+body_step : (h : Header) (p : Body) (s : Said) → IsBodyIn h p → IsFresh p.segments (client_names p) s
     → length (client_names p) ≡ length p.clients → IsGood h (length p.segments) (length (client_names p)) s
-    → IsLater p.clients s → IsBodyIn h.nodes (with_line p s)
+    → IsLater p.clients s → IsBodyIn h (with_line p s)
 body_step h p (said.Segment name) i f e g later =
     let n = length_more p.segments name in
     let few = f.1 in
@@ -181,6 +182,7 @@ body_step h p (said.Segment name) i f e g later =
       segments_differ = differ_push p.segments name i.segments_differ f.0;
       most_clients = i.most_clients;
       clients = clients_wider h.nodes (length p.segments) (length (p.segments ++ name ∷ [])) p.clients (omega (arith, n)) i.clients;
+      dated = i.dated;
       clients_differ = i.clients_differ;
       lines_rise = i.lines_rise;
       turns = i.turns;
@@ -197,6 +199,7 @@ body_step h p (said.Client name) i f e g later =
       segments_differ = i.segments_differ;
       most_clients = omega (arith, n, few, e);
       clients = All-push (IsClient h.nodes (length p.segments)) p.clients c i.clients (g, All-nil (IsLine h.nodes (length p.segments)));
+      dated = All-push (IsDatedClient h.version) p.clients c i.dated (All-nil (λ (l : Line). IsDated h.version l.what));
       clients_differ = rw (clients_step p (said.Client name)) (differ_push (client_names p) name i.clients_differ f.0);
       lines_rise = rw (client_numbers p.clients name) i.lines_rise;
       turns = turns_wider (length p.clients) (length (p.clients ++ c ∷ [])) p.schedule (omega (arith, n)) i.turns;
@@ -213,7 +216,8 @@ body_step h p (said.Does line what) i f e g later =
       segments_differ = i.segments_differ;
       most_clients = omega (arith, n, most);
       clients = all_onto (IsClient h.nodes (length p.segments)) p.clients l i.clients
-          (λ c j. (j.0, All-push (IsLine h.nodes (length p.segments)) c.lines l j.1 g));
+          (λ c j. (j.0, All-push (IsLine h.nodes (length p.segments)) c.lines l j.1 (g.0, g.1)));
+      dated = all_onto (IsDatedClient h.version) p.clients l i.dated (λ c j. All-push (λ (m : Line). IsDated h.version m.what) c.lines l j g.2);
       clients_differ = rw (clients_step p (said.Does line what)) i.clients_differ;
       lines_rise = rise_onto p.clients l g.0 later i.lines_rise;
       turns = turns_wider (length p.clients) (length (onto_last p.clients l)) p.schedule (omega (arith, n)) i.turns;
@@ -227,6 +231,7 @@ body_step h p (said.Care workers rounds) i f e g later =
       segments_differ = i.segments_differ;
       most_clients = i.most_clients;
       clients = i.clients;
+      dated = i.dated;
       clients_differ = i.clients_differ;
       lines_rise = i.lines_rise;
       turns = i.turns;
@@ -240,6 +245,7 @@ body_step h p (said.Schedule turns) i f e g later =
       segments_differ = i.segments_differ;
       most_clients = i.most_clients;
       clients = i.clients;
+      dated = i.dated;
       clients_differ = i.clients_differ;
       lines_rise = i.lines_rise;
       turns = All-append (λ t. t < length p.clients) p.schedule turns i.turns (turns_wider (length (client_names p)) (length p.clients) turns (omega (arith, e)) g);
@@ -282,12 +288,12 @@ length_names : (cs : List Client) → length (client_names (record no_body { cli
 length_names [] = refl
 length_names (c ∷ cs) = ap suc (length_names cs)
 
-body_more_in : (lines : List Said) (s : Said) → IsSound lines → Accepts lines s → IsBodyIn (header_of (lines ++ s ∷ [])).nodes (body_of (lines ++ s ∷ []))
+body_more_in : (lines : List Said) (s : Said) → IsSound lines → Accepts lines s → IsBodyIn (header_of (lines ++ s ∷ [])) (body_of (lines ++ s ∷ []))
 body_more_in lines s i a = elim (cases_lt (length lines) 8) [
   | inl lt ↦
       let order = a.order in let place = i.place in
       let e : with_line (body_of lines) s ≡ no_body = header_line (body_of lines) s (omega (arith, lt, order, place)) ∙ i.bare (omega (arith, lt)) in
-      rw (body_more lines s, e) (no_body_in (header_of (lines ++ s ∷ [])).nodes)
+      rw (body_more lines s, e) (no_body_in (header_of (lines ++ s ∷ [])))
   | inr le ↦
       rw (body_more lines s, header_late lines s le) (body_step (header_of lines) (body_of lines) s i.body a.fresh (length_names (body_of lines).clients) a.good a.later)
 ]

@@ -6,6 +6,7 @@ use Rattle.std.specs.Str.{bytes_eq}
 use Rattle.std.specs.Str.Lines.{strip_carriage_return}
 use Rattle.cod_types.specs.declared.call.Call.{Call}
 use Rattle.cod_types.specs.declared.call.Call.TheVariants as calls
+use Rattle.cod_types.specs.declared.call.SegId.{SegId}
 use Rattle.cod_words.specs.Words.{words_of, lines_of, number_of, is_name, data_of}
 use Rattle.cod_words.specs.declared.data.DataError.{DataError}
 use Rattle.cod_words.specs.declared.data.DataError.TheVariants as data_errors
@@ -349,6 +350,17 @@ carried before line = do
   within ← wants (nat_le (weight_of (before ++ line ∷ [])) 268435456) TooLarge
   room ← wants (is_placed before line) Room
   Ok line
+
+-- `upgrade` is a call of version 2
+abbrev pub has_call : ℕ → Call → Bool
+has_call version calls.Upgrade = version == 2
+has_call version _ = true
+
+-- the next line of the client that came last, which asks this of a segment, where a line that says so would be taken
+unfoldable pub called : List Said → ℕ → SegId → Call → Result Said Refusal
+called before line seg call = do
+  dated ← wants (has_call (header_of before).version call) Order
+  carried before (said.Does line (Segment seg call))
 
 -- ---- a line and a text
 

@@ -6,7 +6,7 @@ use Rattle.std.specs.Str.{bytes_eq}
 use Rattle.cod_words.specs.Words.{is_name}
 use Rattle.cod_script.specs.Room.{taken_on}
 use Rattle.cod_script.specs.Script.{Body, Client}
-use Rattle.cod_script.specs.Sound.{AllDiffer, IsThere, IsClient, NumbersRise, line_count, line_numbers}
+use Rattle.cod_script.specs.Sound.{AllDiffer, IsThere, IsDated, IsClient, IsDatedClient, NumbersRise, line_count, line_numbers}
 use Rattle.cod_script.specs.Weight.{weight}
 use Rattle.cod_scenario.specs.declared.said.Said.TheVariants as said
 use Rattle.cod_scenario.specs.declared.said.Said.{Said}
@@ -78,7 +78,7 @@ IsGood h segments clients (said.Unit x) = (1 ≤ x) × (x ≤ h.reserve)
 IsGood h segments clients (said.Alpha a) = a ≤ 10000
 IsGood h segments clients (said.Segment name) = is_name name ≡ true
 IsGood h segments clients (said.Client name) = is_name name ≡ true
-IsGood h segments clients (said.Does line what) = (1 ≤ line) × IsThere h.nodes segments what
+IsGood h segments clients (said.Does line what) = (1 ≤ line) × IsThere h.nodes segments what × IsDated h.version what
 IsGood h segments clients (said.Care workers rounds) = (workers ≤ 16) × (rounds ≤ 65536)
 IsGood h segments clients (said.Schedule turns) = All (λ turn. turn < clients) turns
 IsGood h segments clients said.End = Unit {0}
@@ -154,12 +154,13 @@ IsHeader (suc (suc (suc (suc (suc (suc (suc zero))))))) h = United h
 IsHeader _ h = Ended h
 
 -- what is known of the lines after the header
-pub record IsBodyIn (nodes : ℕ) (p : Body) : Type 0 where
+pub record IsBodyIn (h : Header) (p : Body) : Type 0 where
   pub most_segments : length p.segments ≤ 1024
   pub segment_names : All (λ name. is_name name ≡ true) p.segments
   pub segments_differ : AllDiffer p.segments
   pub most_clients : length p.clients ≤ 64
-  pub clients : All (IsClient nodes (length p.segments)) p.clients
+  pub clients : All (IsClient h.nodes (length p.segments)) p.clients
+  pub dated : All (IsDatedClient h.version) p.clients
   pub clients_differ : AllDiffer (client_names p)
   pub lines_rise : NumbersRise 0 (line_numbers p.clients)
   pub turns : All (λ turn. turn < length p.clients) p.schedule
@@ -171,7 +172,7 @@ pub record IsSound (lines : List Said) : Type 0 where
   pub header : IsHeader (min (length lines) 8) (header_of lines)
   pub bare : length lines ≤ 8 → body_of lines ≡ no_body
   pub some : HasSome (last_of lines) (body_of lines)
-  pub body : IsBodyIn (header_of lines).nodes (body_of lines)
+  pub body : IsBodyIn (header_of lines) (body_of lines)
   pub count : 8 ≤ length lines
       → line_count (body_of lines).clients + (length (body_of lines).segments + (length (body_of lines).clients + 8)) ≤ length lines
   pub weighed : weight (script_with (header_of lines) (body_of lines)) ≤ weight_of lines

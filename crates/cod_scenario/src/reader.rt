@@ -316,15 +316,19 @@ impl Reader {
     }
 
     /// Takes a call of a segment for the next line of the client that came last. It is refused exactly where a line that says
-    /// so is: where it makes the run too large.
+    /// so is: where it is an upgrade and the version is not 2, or where it makes the run too large.
+    #[tactic(auto, unfolding(crate::specs::Judge::called))]
     pub fn call(&mut self, seg: SegId, call: Call) -> Result<(), LineError>
         requires line { self.old.lines < 2 ^ 32 - 2 }
         requires among { Judge.is_among (Judge.last_of self.old.said) ≡ true }
         requires there { (seg.0 < length (segments_of self.old.said)) × NamesNode (header_of self.old.said).nodes call }
         ensures { let s = Does (self.old.lines + 1) (Segment seg call) in MatchResult result
-            (λ _. (Judge.carried self.old.said s ≡ Ok s) × (self.new ≡ record { lines = self.old.lines + 1; said = self.old.said ++ s ∷ [] }))
-            (λ e. IsRefusal e (Judge.carried self.old.said s) × (self.new ≡ self.old)) }
+            (λ _. (Judge.called self.old.said (self.old.lines + 1) seg call ≡ Ok s) × (self.new ≡ record { lines = self.old.lines + 1; said = self.old.said ++ s ∷ [] }))
+            (λ e. IsRefusal e (Judge.called self.old.said (self.old.lines + 1) seg call) × (self.new ≡ self.old)) }
     {
+        if !has_call(self.header.version, &call) {
+            return Err(LineError::Refused(Refusal::Order));
+        }
         look_at(&call);
         let said = Said::Does {
             line: self.lines + 1,
@@ -354,6 +358,13 @@ impl Reader {
         } = self;
         Ok(scenario(&header, gathered(alloc, said)?))
     }
+}
+
+/// Whether this version has the call.
+fn has_call(version: u8, call: &Call) -> bool
+    ensures { result ≡ Judge.has_call version call.now }
+{
+    !matches!(call, Call::Upgrade) || version == 2
 }
 
 /// The bytes of a call are bytes.

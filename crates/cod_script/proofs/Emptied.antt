@@ -5,7 +5,7 @@ use Rattle.std.proofs.lemmas.List.Elements.{All-nil, All-cons, All-tail}
 use Rattle.std.proofs.lemmas.List.Sums.{sum_by-append}
 use Rattle.cod_script.specs.declared.line.Line.{Line}
 use Rattle.cod_script.specs.Script.{Script, Client, clients_without, without_lines}
-use Rattle.cod_script.specs.Sound.{IsScenario, IsClient, IsLine, NumbersRise, line_numbers, line_count}
+use Rattle.cod_script.specs.Sound.{IsScenario, IsClient, IsLine, IsDated, IsDatedClient, NumbersRise, line_numbers, line_count}
 use Rattle.cod_script.specs.Weight.{weight, clients_weight, lines_weight}
 
 pub same_count : (cs : List Client) (who : ℕ) → length (clients_without cs who) ≡ length cs
@@ -27,6 +27,13 @@ still_clients nodes segments (c ∷ cs) zero all =
     All-cons (IsClient nodes segments) (record c { lines = [] }) cs (bare_client nodes segments c (all 0 c (omega arith))) (All-tail (IsClient nodes segments) c cs all)
 still_clients nodes segments (c ∷ cs) (suc who) all =
     All-cons (IsClient nodes segments) c (clients_without cs who) (all 0 c (omega arith)) (still_clients nodes segments cs who (All-tail (IsClient nodes segments) c cs all))
+
+still_dated : (version : ℕ) (cs : List Client) (who : ℕ) → All (IsDatedClient version) cs → All (IsDatedClient version) (clients_without cs who)
+still_dated version [] who all = all
+still_dated version (c ∷ cs) zero all =
+    All-cons (IsDatedClient version) (record c { lines = [] }) cs (All-nil (λ (l : Line). IsDated version l.what)) (All-tail (IsDatedClient version) c cs all)
+still_dated version (c ∷ cs) (suc who) all =
+    All-cons (IsDatedClient version) c (clients_without cs who) (all 0 c (omega arith)) (still_dated version cs who (All-tail (IsDatedClient version) c cs all))
 
 sum_cons : (f : Client → ℕ) (c : Client) (cs : List Client) → sum_by f (c ∷ cs) ≡ f c + sum_by f cs
 sum_cons f c cs = sum_by-append f (c ∷ []) cs ∙ omega arith
@@ -87,6 +94,7 @@ still_scenario x who i =
       some_clients = rw n i.some_clients;
       most_clients = rw n i.most_clients;
       clients = still_clients x.nodes (length x.segments) x.clients who i.clients;
+      dated = still_dated x.shape.version x.clients who i.dated;
       clients_differ = rw (same_names x.clients who) i.clients_differ;
       few_lines = let f = fewer_lines x.clients who in let few = i.few_lines in omega (arith, f, few);
       lines_rise = still_rise 0 x.clients who i.lines_rise;

@@ -37,6 +37,22 @@ HasBytes Rebuild = Unit {0}
 HasBytes Upgrade = Unit {0}
 HasBytes (Drain node) = Unit {0}
 
+-- an upgrade is asked for only where records of version 2 may be written
+abbrev pub IsDatedCall : (version : ℕ) → Call → Type 0
+IsDatedCall version Upgrade = version ≡ 2
+IsDatedCall version (Read off len) = Unit {0}
+IsDatedCall version (Write off bytes) = Unit {0}
+IsDatedCall version (Swap off old new) = Unit {0}
+IsDatedCall version (Put bytes) = Unit {0}
+IsDatedCall version Merge = Unit {0}
+IsDatedCall version Tick = Unit {0}
+IsDatedCall version Rebuild = Unit {0}
+IsDatedCall version (Drain node) = Unit {0}
+
+abbrev pub IsDated : (version : ℕ) → What → Type 0
+IsDated version (Segment seg call) = IsDatedCall version call
+IsDated version (Fail node) = Unit {0}
+
 -- the segment or the node of a line is there, and its bytes are bytes
 abbrev pub IsThere : (nodes segments : ℕ) → What → Type 0
 IsThere nodes segments (Segment seg call) = (seg.0 < segments) × NamesNode nodes call × HasBytes call
@@ -48,6 +64,10 @@ IsLine nodes segments l = (1 ≤ l.line) × IsThere nodes segments l.what
 -- a client has a name, and its lines name what is there
 abbrev pub IsClient : (nodes segments : ℕ) → Client → Type 0
 IsClient nodes segments c = (is_name c.name ≡ true) × All (IsLine nodes segments) c.lines
+
+-- each line of a client is one that this version has
+abbrev pub IsDatedClient : (version : ℕ) → Client → Type 0
+IsDatedClient version c = All (λ l. IsDated version l.what) c.lines
 
 abbrev pub line_count : List Client → ℕ
 line_count clients = sum_by (λ c. length c.lines) clients
@@ -66,7 +86,8 @@ abbrev pub line_numbers : List Client → List ℕ
 line_numbers [] = []
 line_numbers (c ∷ cs) = map (λ l. l.line) c.lines ++ line_numbers cs
 
--- `lines_rise`: a line's number tells the line; `room`: the columns that stand at home on a node fit into what it has.
+-- `dated`: an upgrade stands only in a scenario of version 2; `lines_rise`: a line's number tells the line; `room`: the columns that
+-- stand at home on a node fit into what it has.
 pub record IsScenario (p : Script) : Type 0 where
   pub shape : IsWithin p.shape
   pub some_nodes : 1 ≤ p.nodes
@@ -80,6 +101,7 @@ pub record IsScenario (p : Script) : Type 0 where
   pub some_clients : 1 ≤ length p.clients
   pub most_clients : length p.clients ≤ 64
   pub clients : All (IsClient p.nodes (length p.segments)) p.clients
+  pub dated : All (IsDatedClient p.shape.version) p.clients
   pub clients_differ : AllDiffer (map (λ c. c.name) p.clients)
   pub few_lines : line_count p.clients < 2 ^ 32
   pub lines_rise : NumbersRise 0 (line_numbers p.clients)
