@@ -48,25 +48,25 @@ front [] ys = ap (λ (q : List ℕ). combination q ys) (take_nil (length ys))
 front (x ∷ xs) [] = refl
 front (x ∷ xs) (y ∷ ys) = ap (bit_xor (product x y)) (front xs ys)
 
-part_at : (xs : List ℕ) (from block place : ℕ) → place < block → get_or (slice_range xs from (from + block)) place 0 ≡ get_or xs (from + place) 0
+pub part_at : (xs : List ℕ) (from block place : ℕ) → place < block → get_or (slice_range xs from (from + block)) place 0 ≡ get_or xs (from + place) 0
 part_at xs from block place h =
     let lt : place < from + block - from = omega arith in
     get_or-take (from + block - from) (drop from xs) place 0 lt ∙ get_or-drop from xs place 0
 
-part_length : (xs : List ℕ) (k j block : ℕ) → length xs ≡ k * block → j < k → length (slice_range xs (j * block) (j * block + block)) ≡ block
+part_length : (xs : List ℕ) (k j block : ℕ) → k * block ≤ length xs → j < k → length (slice_range xs (j * block) (j * block + block)) ≡ block
 part_length xs k j block long h =
     let from = j * block in
     let fits : suc j * block ≤ k * block = mul-le-mul_right block h in
     let room : from + block ≤ length xs = omega (arith, suc-mul j block) in
     omega (arith, length-take (from + block - from) (drop from xs), length-drop from xs)
 
-parts_long : (xs : List ℕ) (k block : ℕ) → length xs ≡ k * block → (a n : ℕ) → a + n ≤ k → AllLong block (map (part block xs) (range_with_len a n))
+pub parts_long : (xs : List ℕ) (k block : ℕ) → k * block ≤ length xs → (a n : ℕ) → a + n ≤ k → AllLong block (map (part block xs) (range_with_len a n))
 parts_long xs k block long a zero le m d lt = absurd (omega arith)
 parts_long xs k block long a (suc n) le zero d lt = part_length xs k a block long (omega arith)
 parts_long xs k block long a (suc n) le (suc m) d lt = parts_long xs k block long (a + 1) n (omega arith) m d (omega arith)
 
 -- each of the sources is as long as a block
-pub sources_long : (xs : List ℕ) (k block : ℕ) (sources : List (Bor (List ℕ))) → length xs ≡ k * block
+pub sources_long : (xs : List ℕ) (k block : ℕ) (sources : List (Bor (List ℕ))) → k * block ≤ length xs
     → map (λ (s : Bor (List ℕ)). s.now) sources ≡ map (part block xs) (range_with_len 0 k) → All (λ (s : Bor (List ℕ)). length s.now ≡ block) sources
 sources_long xs k block sources long are = unmapped block sources (rw are (parts_long xs k block long 0 k (omega arith)))
   where
@@ -80,11 +80,11 @@ pub encoded : (k block i : ℕ) (segment into : List ℕ) (row : List ℕ) (sour
     → length segment ≡ k * block → sources ≡ map (part block segment) (range_with_len 0 k)
     → into ≡ added_all_scaled (replicate block 0) (take k row) sources → into ≡ column k block i segment
 unfolding column_byte across
-encoded k block i segment into row sources le size row_is whole sources_are is = column_is k block i segment into size (λ x lt.
+encoded k block i segment into row sources le size row_is whole sources_are is = let enough : k * block ≤ length segment = omega arith in column_is k block i segment into size (λ x lt.
     let zeros = replicate block 0 in
     let ys = across k block segment x in
     ap (λ (l : List ℕ). get_or l x 0) is
-    ∙ added_all_scaled_at zeros (take k row) sources x (rw (length-replicate {A = ℕ} block 0, sources_are) (parts_long segment k block whole 0 k (omega arith)))
+    ∙ added_all_scaled_at zeros (take k row) sources x (rw (length-replicate {A = ℕ} block 0, sources_are) (parts_long segment k block enough 0 k (omega arith)))
     ∙ ap (λ (z : ℕ). bit_xor z (sum_at (take k row) sources x)) (get_or-replicate block x 0 0 lt)
     ∙ xor_zero_l (sum_at (take k row) sources x)
     ∙ sum_is_combination (take k row) sources x

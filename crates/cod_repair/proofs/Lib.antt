@@ -6,3 +6,4 @@ pub mod Reading
 pub mod Summing
 pub mod Valuing
 pub mod Keeping
+pub mod Windows

@@ -1,7 +1,7 @@
 -- Sums of columns, and what they are.
 use Rattle.std.proofs.Common.{◌≡◌, ℕ, zero, suc, ◌+◌, ◌-◌, ◌^◌, ◌<◌, ◌≤◌, nat_eq, false, List, length, take, drop, get_or, bit_xor, refl, sym, ap, ap₂, ◌∙◌, arith, add-one, Result, OnOk}
 use Rattle.std.specs.Prelude.{count_ones}
-use Rattle.std.specs.Int.Bits.{xor_assoc, xor_zero_l, xor_zero_r}
+use Rattle.std.specs.Int.Bits.{xor_zero_r}
 use Rattle.std.proofs.lemmas.List.{ext_get_or, get_or-take, get_or-drop, length-take, length-drop}
 use Rattle.std.proofs.lemmas.Nat.Bits.{bit_at_above}
 use Rattle.std.proofs.lemmas.Result.{on_ok_weaker}
@@ -16,7 +16,7 @@ use Rattle.cod_code.proofs.Segments.{column_at, column_length, decoding_gives_co
 use Rattle.cod_code.proofs.Sums.{decode_row_place, decode_weight, decode_weight_elsewhere, decoded_by_sum, sum_below_more, sum_below_none, sum_below_skip}
 use Rattle.cod_repair.specs.Pieces.{sum_of}
 
-sum_of_more : (row : List ℕ) (byte : ℕ → ℕ) (m : ℕ) → sum_of row byte (m + 1) ≡ bit_xor (sum_of row byte m) (product (get_or row m 0) (byte m))
+pub sum_of_more : (row : List ℕ) (byte : ℕ → ℕ) (m : ℕ) → sum_of row byte (m + 1) ≡ bit_xor (sum_of row byte m) (product (get_or row m 0) (byte m))
 sum_of_more row byte m = rw (add-one m) refl
 
 -- a column with the coefficient 0 adds nothing
@@ -24,13 +24,6 @@ pub sum_of_skip : (row : List ℕ) (byte : ℕ → ℕ) (m : ℕ) → get_or row
 sum_of_skip row byte m none =
     sym (sum_of_more row byte m ∙ ap (λ (c : ℕ). bit_xor (sum_of row byte m) (product c (byte m))) none
     ∙ ap (bit_xor (sum_of row byte m)) (product_zero_left (byte m)) ∙ xor_zero_r (sum_of row byte m))
-
--- what is added after one source more
-pub sum_step : (i old into new : ℕ) (row : List ℕ) (byte : ℕ → ℕ) → new ≡ bit_xor into (product (get_or row i 0) (byte i)) → into ≡ bit_xor old (sum_of row byte i)
-    → new ≡ bit_xor old (sum_of row byte (i + 1))
-sum_step i old into new row byte added now =
-    let p = product (get_or row i 0) (byte i) in
-    added ∙ ap (λ (t : ℕ). bit_xor t p) now ∙ xor_assoc old (sum_of row byte i) p ∙ ap (bit_xor old) (sym (sum_of_more row byte i))
 
 -- ---- sums by the decoding row
 
@@ -61,12 +54,11 @@ sum_is_decoded sources wanted b n le small =
     ∙ sym (decoded_by_sum sources wanted b)
 
 -- the sum of the sources at each place of a range is the wanted column there
-piece_is : (n k block sources wanted off : ℕ) (segment into zeros : List ℕ)
+piece_is : (n k block sources wanted off : ℕ) (segment into : List ℕ)
     → k ≤ n → n ≤ 16 → AreBytes segment → count_ones sources ≡ k → sources < 2 ^ n → wanted < n → off + length into ≤ block
-    → ((x : ℕ) → x < length into → get_or zeros x 0 ≡ 0)
-    → ((x : ℕ) → x < length into → get_or into x 0 ≡ bit_xor (get_or zeros x 0) (sum_of (decode_row_at sources wanted) (λ i. column_byte k block i segment (off + x)) n))
+    → ((x : ℕ) → x < length into → get_or into x 0 ≡ sum_of (decode_row_at sources wanted) (λ i. column_byte k block i segment (off + x)) n)
     → into ≡ bytes_at (column k block wanted segment) off (length into)
-piece_is n k block sources wanted off segment into zeros le most bytes count small inside fits none sums =
+piece_is n k block sources wanted off segment into le most bytes count small inside fits sums =
     let col = column k block wanted segment in
     let size : length (take (length into) (drop off col)) ≡ length into = let l = column_length k block wanted segment in omega (arith, length-take {A = ℕ}, length-drop {A = ℕ}) in
     ext_get_or 0 into (take (length into) (drop off col)) (sym size)
@@ -74,20 +66,16 @@ piece_is n k block sources wanted off segment into zeros le most bytes count sma
     let byte = λ (i : ℕ). column_byte k block i segment (off + x) in
     let within : off + x < block = omega arith in
     sums x lt
-    ∙ ap (λ (z : ℕ). bit_xor z (sum_of (decode_row_at sources wanted) byte n)) (none x lt)
-    ∙ xor_zero_l (sum_of (decode_row_at sources wanted) byte n)
     ∙ sum_is_decoded sources wanted byte n most small
     ∙ decoding_gives_column n k block sources wanted (off + x) segment byte le most bytes count small inside (λ j is. refl)
     ∙ sym (get_or-take (length into) (drop off col) x 0 lt ∙ get_or-drop off col x 0 ∙ column_at k block wanted segment (off + x) within))
 
-pub piece_bytes : {E : Type 0} (result : Result (Unit {0}) E) (n k block sources wanted off len m : ℕ) (segment into zeros row : List ℕ)
+pub piece_bytes : {E : Type 0} (result : Result (Unit {0}) E) (n k block sources wanted off len m : ℕ) (segment into row : List ℕ)
     → k ≤ n → n ≤ 16 → AreBytes segment → count_ones sources ≡ k → sources < 2 ^ n → wanted < n → off + len ≤ block
-    → length into ≡ len → length zeros ≡ len → row ≡ decode_row_at sources wanted → m ≡ n
-    → ((x : ℕ) → x < len → get_or zeros x 0 ≡ 0)
-    → OnOk result ((x : ℕ) → x < length zeros → get_or into x 0 ≡ bit_xor (get_or zeros x 0) (sum_of row (λ i. column_byte k block i segment (off + x)) m))
+    → length into ≡ len → row ≡ decode_row_at sources wanted → m ≡ n
+    → OnOk result ((x : ℕ) → x < len → get_or into x 0 ≡ sum_of row (λ i. column_byte k block i segment (off + x)) m)
     → OnOk result (into ≡ bytes_at (column k block wanted segment) off len)
-piece_bytes result n k block sources wanted off len m segment into zeros row le most bytes count small inside fits size clear is all none =
-    on_ok_weaker result (λ sums. rw (← size) (piece_is n k block sources wanted off segment into zeros le most bytes count small inside (omega arith)
-    (λ x lt. none x (omega arith))
+piece_bytes result n k block sources wanted off len m segment into row le most bytes count small inside fits size is all =
+    on_ok_weaker result (λ sums. rw (← size) (piece_is n k block sources wanted off segment into le most bytes count small inside (omega arith)
     (λ x lt. sums x (omega arith)
-    ∙ ap₂ (λ (r : List ℕ) (m : ℕ). bit_xor (get_or zeros x 0) (sum_of r (λ i. column_byte k block i segment (off + x)) m)) is all)))
+    ∙ ap₂ (λ (r : List ℕ) (m : ℕ). sum_of r (λ i. column_byte k block i segment (off + x)) m) is all)))

@@ -1,5 +1,5 @@
 -- What a piece of a column is made from.
-use Rattle.std.specs.Prelude.{◌≡◌, ℕ, zero, suc, List, slice_index, bit_xor, Option, true}
+use Rattle.std.specs.Prelude.{◌≡◌, ◌+◌, ◌*◌, ℕ, zero, suc, List, slice_index, bit_xor, Option, Bool, true, if◌then◌else◌}
 use Rattle.cod_types.specs.Overwritten.{byte_of}
 use Rattle.cod_field.specs.Field.{product}
 use Rattle.cod_claims.specs.Claimed.{claim_at, kept_of}
@@ -16,6 +16,12 @@ kept_byte claims i x = byte_of (kept_of (claim_at claims i)) x
 abbrev pub sum_of : (row : List ℕ) (byte : ℕ → ℕ) (m : ℕ) → ℕ
 sum_of row byte zero = 0
 sum_of row byte (suc m) = bit_xor (sum_of row byte m) (product (slice_index row m) (byte m))
+
+-- What stands at a place with the bytes added that are there in the first windows, each times its coefficient. What stands in fresh
+-- bytes doesn't count.
+abbrev pub with_windows : (fresh : Bool) (into coefs windows : List ℕ) (len held x : ℕ) → ℕ
+with_windows fresh into coefs windows len held x =
+    bit_xor (if fresh then 0 else slice_index into x) (sum_of coefs (λ j. slice_index windows (j * len + x)) held)
 
 -- each of the k lowest live columns has at the cut the value of that column of the segment
 abbrev pub AreOf : (k block : ℕ) (segment : List ℕ) (claims : List (Option Claim)) (cuts : List ℕ) → List Col → Type 0

@@ -12,14 +12,18 @@ use cod_types::{Geometry, OutOfMemory};
 use std::alloc::Global;
 use std::marker::Model;
 
+/// The bytes that windows may have in all.
+const WINDOWS: usize = 1 << 20;
+
 /// What the calls of a geometry's columns need beside the columns: scratch bytes for a parity column's block and log, a
-/// block's bytes, and decoding rows. It takes at most 6 MiB, and is seen as the geometry.
+/// block's bytes, windows into which sources are read, and decoding rows. It takes at most 7 MiB, and is seen as the geometry.
 #[derive(Drop)]
 pub struct Bench {
     pub(crate) shape: Geometry,
     pub(crate) rows: Rows,
     pub(crate) scratch: Vec<u8>,
     pub(crate) block: Vec<u8>,
+    pub(crate) windows: Vec<u8>,
 }
 
 impl Model for Bench {
@@ -31,7 +35,7 @@ impl Model for Bench {
 
     ghost view = { λ b. b.shape };
 
-    ghost invariant = { λ b. IsBench b.shape b.rows (vec_len b.scratch) (vec_len b.block) };
+    ghost invariant = { λ b. IsBench b.shape b.rows (vec_len b.scratch) (vec_len b.block) (vec_len b.windows) };
 }
 
 impl Bench {
@@ -45,6 +49,7 @@ impl Bench {
             rows: Rows::new(alloc, Code::new(g.n(), g.k()))?,
             scratch: vec![in alloc; 0; block + g.reserve() as usize]?,
             block: vec![in alloc; 0; block]?,
+            windows: vec![in alloc; 0; (4 * block).min(WINDOWS)]?,
         })
     }
 

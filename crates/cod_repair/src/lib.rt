@@ -15,6 +15,3 @@ pub use column::Column;
 pub use columns::{ColumnFailed, Columns};
 pub use target::Target;
 pub use window::piece;
-
-#[cfg(test)]
-mod tests;

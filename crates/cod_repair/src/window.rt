@@ -1,21 +1,20 @@
 //! A window of a column, made from the k lowest live columns.
-ghost use Rattle.std.specs.Prelude.{◌≡◌, ◌+◌, ◌<◌, ◌≤◌, ℕ, List, length, slice_index, bit_xor, true, false, OnOk, IfErr, IsOk, MatchResult};
+ghost use Rattle.std.specs.Prelude.{◌≡◌, ◌+◌, ◌*◌, ◌<◌, ◌≤◌, ℕ, List, length, slice_index, true, false, OnOk, IfErr, IsOk, MatchResult};
 ghost use Rattle.cod_types.specs.Faults.{HasCause, Rose};
 ghost use Rattle.cod_types.specs.Plain.{bytes_at};
-ghost use Rattle.cod_field.specs.Field.{product};
 ghost use Rattle.cod_code.specs.Codewords.{AreBytes};
 ghost use Rattle.cod_code.specs.Columns.{has_column};
 ghost use Rattle.cod_code.specs.Segments.{column};
 ghost use Rattle.cod_seg.specs.Laws.{up_below};
 ghost use Rattle.cod_seg.specs.Seg.{col_at};
 ghost use Rattle.cod_repair.specs.Columns.{AreMadeFor, failed_at, faults_at, HasValue, IsReadable, is_source, state_at, was_read, were_read};
-ghost use Rattle.cod_repair.specs.Pieces.{AreOf, kept_byte, sum_of};
+ghost use Rattle.cod_repair.specs.Pieces.{AreOf, kept_byte, sum_of, with_windows};
 
 use crate::calls::failed;
 use crate::sources::{has, lowest_live};
 use crate::{Bench, Column, ColumnFailed, Columns};
 use cod_claims::Claims;
-use cod_kernel::add_scaled;
+use cod_kernel::{add_all_scaled, set_all_scaled};
 use cod_region::Region;
 use cod_types::Cuts;
 
@@ -46,8 +45,7 @@ pub fn piece<R: Region>(
 {
     let sources = lowest_live(&columns.slots, bench.shape.k());
     let row = bench.rows.row(sources, wanted);
-    clear(into);
-    add_sources(
+    sum_sources(
         &mut columns.slots,
         claims,
         cuts,
@@ -55,20 +53,16 @@ pub fn piece<R: Region>(
         &row,
         off,
         into,
-        &mut bench.block,
+        &mut bench.windows,
         &mut bench.scratch,
     )
 }
 
-/// Leaves zeros alone.
-fn clear(bytes: &mut [u8])
-    ensures { (x : ℕ) → x < length bytes.old → slice_index bytes.new x ≡ 0 }
-{
-    bytes.fill(0);
-}
+/// How many windows are added at once.
+const WAYS: usize = 4;
 
-/// Adds the source columns, each times its coefficient, by one read on each.
-fn add_sources<R: Region>(
+/// Brings the sum of the source columns, each times its coefficient, by one read on each.
+fn sum_sources<R: Region>(
     columns: &mut [Column<R>],
     claims: &Claims,
     cuts: &Cuts,
@@ -76,69 +70,118 @@ fn add_sources<R: Region>(
     row: &[u8; 16],
     off: u32,
     into: &mut [u8],
-    block: &mut [u8],
+    windows: &mut [u8],
     scratch: &mut [u8],
 ) -> Result<(), ColumnFailed>
     requires most { length columns.old ≤ 16 }
     requires elsewhere { (j : ℕ) → j < 16 → has_column sources j ≡ false → slice_index row.now j ≡ 0 }
     requires range { (i : ℕ) → i < length columns.old → has_column sources i ≡ true
         → IsReadable off (length into.old) (length scratch.old) (col_at columns.old i) }
-    requires room { length into.old ≤ length block.old }
+    requires room { length into.old ≤ length windows.old }
     ensures sum { (v : ℕ → ℕ → ℕ) → ((i : ℕ) → i < length columns.old → has_column sources i ≡ true
         → HasValue (col_at columns.old i) cuts.now (kept_byte claims.now i) (v i))
         → OnOk result ((x : ℕ) → x < length into.old
-        → slice_index into.new x ≡ bit_xor (slice_index into.old x) (sum_of row.now (λ i. v i (off + x)) (length columns.old))) }
+        → slice_index into.new x ≡ sum_of row.now (λ i. v i (off + x)) (length columns.old)) }
     ensures reads { MatchResult result (λ _. columns.new ≡ were_read (has_column sources) columns.old (length columns.old))
         (λ e. columns.new ≡ failed_at (has_column sources) columns.old e.col e.count) }
     ensures cause { IfErr result (λ e. (e.col < length columns.old) × (has_column sources e.col ≡ true) × Rose (faults_at columns.old e.col) e.count) }
     ensures sure { ((i : ℕ) → i < length columns.old → has_column sources i ≡ true → (state_at columns.old i).device.never_fails ≡ true) → IsOk result }
 {
+    let mut coefs = [0; WAYS];
+    let mut held = 0;
+    let mut fresh = true;
     for i in 0..columns.len() {
         if has(sources, i) {
-            add_source(
+            (held, fresh) = settled(fresh, into, &coefs, windows, held);
+            read_source(
                 &mut columns[i],
                 claims,
                 cuts,
                 i as u8,
-                row[i],
                 off,
-                into,
-                block,
+                windows,
+                held * into.len(),
+                into.len(),
                 scratch,
             )?;
+            coefs[held] = row[i];
+            held += 1;
         }
     }
+    add_windows(fresh, into, &coefs, windows, held);
     Ok(())
 }
 
-/// Adds a column's bytes at the cut, times a coefficient, by one read.
-fn add_source<R: Region>(
+/// Adds the windows that are held where there is no room for one more. It answers how many are held then, and whether nothing
+/// was added yet.
+fn settled(
+    fresh: bool,
+    into: &mut [u8],
+    coefs: &[u8; WAYS],
+    windows: &[u8],
+    held: usize,
+) -> (usize, bool)
+    requires few { held ≤ 4 }
+    requires held { held * length into.old ≤ length windows.now }
+    requires room { length into.old ≤ length windows.now }
+    ensures few { result.0 < 4 }
+    ensures fits { result.0 * length into.old + length into.old ≤ length windows.now }
+    ensures same { (x : ℕ) → x < length into.old
+        → with_windows result.1 into.new coefs.now windows.now (length into.old) result.0 x
+        ≡ with_windows fresh into.old coefs.now windows.now (length into.old) held x }
+{
+    let len = into.len();
+    if held < WAYS && len <= windows.len() - held * len {
+        return (held, fresh);
+    }
+    add_windows(fresh, into, coefs, windows, held);
+    (0, false)
+}
+
+/// Adds the windows that are held, each times its coefficient, in one pass. Fresh bytes are set.
+fn add_windows(fresh: bool, into: &mut [u8], coefs: &[u8; WAYS], windows: &[u8], held: usize)
+    requires few { held ≤ 4 }
+    requires held { held * length into.old ≤ length windows.now }
+    ensures { (x : ℕ) → x < length into.old
+        → slice_index into.new x ≡ with_windows fresh into.old coefs.now windows.now (length into.old) held x }
+{
+    let len = into.len();
+    let mut sources = [&windows[..0]; WAYS];
+    for j in 0..held {
+        sources[j] = &windows[j * len..j * len + len];
+    }
+    if fresh {
+        set_all_scaled(into, &coefs[..held], &sources[..held])
+    } else {
+        add_all_scaled(into, &coefs[..held], &sources[..held])
+    }
+}
+
+/// Reads a column's bytes at the cut into a window, by one read.
+fn read_source<R: Region>(
     column: &mut Column<R>,
     claims: &Claims,
     cuts: &Cuts,
     col: u8,
-    coef: u8,
     off: u32,
-    into: &mut [u8],
-    block: &mut [u8],
+    windows: &mut [u8],
+    at: usize,
+    len: usize,
     scratch: &mut [u8],
 ) -> Result<(), ColumnFailed>
-    requires range { IsReadable off (length into.old) (length scratch.old) column.old }
-    requires room { length into.old ≤ length block.old }
+    requires range { IsReadable off len (length scratch.old) column.old }
+    requires room { at + len ≤ length windows.old }
     ensures same { column.new ≡ was_read column.new.state.device.faults column.old }
-    ensures sum { (v : ℕ → ℕ) → HasValue column.old cuts.now (kept_byte claims.now col) v
-        → OnOk result ((x : ℕ) → x < length into.old → slice_index into.new x ≡ bit_xor (slice_index into.old x) (product coef (v (off + x)))) }
+    ensures before { (y : ℕ) → y < at → slice_index windows.new y ≡ slice_index windows.old y }
+    ensures value { (v : ℕ → ℕ) → HasValue column.old cuts.now (kept_byte claims.now col) v
+        → OnOk result ((x : ℕ) → x < len → slice_index windows.new (at + x) ≡ v (off + x)) }
     ensures cause { HasCause column.old.state.device.faults column.new.state.device.faults result }
     ensures failed { IfErr result (λ e. (e.col ≡ col) × (e.count ≡ column.new.state.device.faults)) }
     ensures sure { column.old.state.device.never_fails ≡ true → IsOk result }
 {
-    let len = into.len();
-    let bytes = &mut block[..len];
-    match column.read_at_cut(claims.kept(col), off, bytes, cuts, scratch) {
-        Ok(()) => {
-            add_scaled(into, coef, bytes);
-            Ok(())
-        }
+    let window = &mut windows[at..at + len];
+    match column.read_at_cut(claims.kept(col), off, window, cuts, scratch) {
+        Ok(()) => Ok(()),
         Err(_) => Err(failed(column, col)),
     }
 }

@@ -11,71 +11,41 @@ use Rattle.cod_reading.specs.Filling.{parts_in}
 use Rattle.cod_reading.specs.Reads.{part_reads}
 use Rattle.cod_reading.proofs.Asking.{lost_ended}
 use Rattle.cod_reading.proofs.Claiming.{buffers_fit, changes_free, differs_ended, has_begun, IsBrought, moved, moved_sound, none_ended, update_reads}
-use Rattle.cod_reading.proofs.Ending.{costs_begin, ended_begin, ended_makes, ended_outcome, ended_rooms, ended_sound, newest_after, room_last, rooms_kept}
+use Rattle.cod_reading.proofs.Ending.{costs_begin, ended_begin, ended_makes, ended_outcome, ended_rooms, ended_sound, IsEnded, newest_after, room_last, rooms_kept}
 use Rattle.cod_reading.proofs.Starting.{is_beginning, may_begin}
+use Rattle.cod_reading.proofs.beginning.begin.Given.{Over}
 use Rattle.cod_reading.proofs.beginning.begin.Goals as goal
+use Rattle.cod_reading.proofs.beginning.begin.Goals.{After-answer, After-answer_lost, After-answer-in-Some, After-are_bytes, After-claim}
+
+-- ---- an update of no bytes
+
+no_bytes : (g : Over) (c : After-answer g) → IsEnded c.args.clock.now c.args.clock.now c.answer.new.clock c.args.segment.now c.args.segment.now c.answer.new.self c.args.asker.caller c.args.asker.number (call_in c.args.slip.now) Done
+no_bytes g c =
+    let s = c.args.segment.now in
+    let p = c.args.slip.now in
+    let caller = c.args.asker.caller in
+    let number = c.args.asker.number in
+    let t = c.args.clock.now in
+    let begin = is_beginning s caller.0 number p c.requires.sound c.requires.next c.requires.asked in
+    none_ended s c.answer.new.self caller number t c.answer.new.clock p c.requires.sound begin (sym c.deltas.ensures ∙ c.if-deltas-eq0.true) c.answer.ensures.clock c.answer.ensures.follows c.answer.ensures.becomes
 
 pub returns-then-deltas-eq0-clause-sound : goal.returns-then-deltas-eq0-clause-sound
-returns-then-deltas-eq0-clause-sound g c =
-    let s = c.args.segment.now in
-    let p = c.args.slip.now in
-    let caller = c.args.asker.caller in
-    let number = c.args.asker.number in
-    let t = c.args.clock.now in
-    let begin = is_beginning s caller.0 number p c.requires.sound c.requires.next c.requires.asked in
-    let u = c.answer.new.self in
-    let stamp = c.answer.new.clock in
-    let e = none_ended s u caller number t stamp p c.requires.sound begin (sym c.deltas.ensures ∙ c.if-deltas-eq0.true) c.answer.ensures.clock c.answer.ensures.follows c.answer.ensures.becomes in
-    ended_sound t t stamp s s u caller number (call_in p) Done e
+returns-then-deltas-eq0-clause-sound g c = ended_sound c.args.clock.now c.args.clock.now c.answer.new.clock c.args.segment.now c.args.segment.now c.answer.new.self c.args.asker.caller c.args.asker.number (call_in c.args.slip.now) Done (no_bytes g c)
 
 pub returns-then-deltas-eq0-clause-makes : goal.returns-then-deltas-eq0-clause-makes
-returns-then-deltas-eq0-clause-makes g c =
-    let s = c.args.segment.now in
-    let p = c.args.slip.now in
-    let caller = c.args.asker.caller in
-    let number = c.args.asker.number in
-    let t = c.args.clock.now in
-    let begin = is_beginning s caller.0 number p c.requires.sound c.requires.next c.requires.asked in
-    let u = c.answer.new.self in
-    let stamp = c.answer.new.clock in
-    let e = none_ended s u caller number t stamp p c.requires.sound begin (sym c.deltas.ensures ∙ c.if-deltas-eq0.true) c.answer.ensures.clock c.answer.ensures.follows c.answer.ensures.becomes in
-    rw c.answer.ensures.outcome (λ w setting. ended_makes w t t stamp s s u caller number (call_in p) Done e setting)
+returns-then-deltas-eq0-clause-makes g c = rw c.answer.ensures.outcome (λ w setting. ended_makes w c.args.clock.now c.args.clock.now c.answer.new.clock c.args.segment.now c.args.segment.now c.answer.new.self c.args.asker.caller c.args.asker.number (call_in c.args.slip.now) Done (no_bytes g c) setting)
 
 pub returns-then-deltas-eq0-clause-outcome : goal.returns-then-deltas-eq0-clause-outcome
-returns-then-deltas-eq0-clause-outcome g c =
-    let s = c.args.segment.now in
-    let p = c.args.slip.now in
-    let caller = c.args.asker.caller in
-    let number = c.args.asker.number in
-    let t = c.args.clock.now in
-    let begin = is_beginning s caller.0 number p c.requires.sound c.requires.next c.requires.asked in
-    let u = c.answer.new.self in
-    let stamp = c.answer.new.clock in
-    let e = none_ended s u caller number t stamp p c.requires.sound begin (sym c.deltas.ensures ∙ c.if-deltas-eq0.true) c.answer.ensures.clock c.answer.ensures.follows c.answer.ensures.becomes in
-    rw c.answer.ensures.outcome (ended_outcome t t stamp s s u caller number (call_in p) Done c.answer.new.slip e (ap (λ (x : Paper). x.reply) c.answer.ensures.slip))
+returns-then-deltas-eq0-clause-outcome g c = rw c.answer.ensures.outcome (ended_outcome c.args.clock.now c.args.clock.now c.answer.new.clock c.args.segment.now c.args.segment.now c.answer.new.self c.args.asker.caller c.args.asker.number (call_in c.args.slip.now) Done c.answer.new.slip (no_bytes g c) (ap (λ (x : Paper). x.reply) c.answer.ensures.slip))
 
 pub returns-then-deltas-eq0-clause-costs : goal.returns-then-deltas-eq0-clause-costs
-returns-then-deltas-eq0-clause-costs g c =
-    let s = c.args.segment.now in
-    let p = c.args.slip.now in
-    let caller = c.args.asker.caller in
-    let number = c.args.asker.number in
-    let t = c.args.clock.now in
-    let begin = is_beginning s caller.0 number p c.requires.sound c.requires.next c.requires.asked in
-    let u = c.answer.new.self in
-    let stamp = c.answer.new.clock in
-    let e = none_ended s u caller number t stamp p c.requires.sound begin (sym c.deltas.ensures ∙ c.if-deltas-eq0.true) c.answer.ensures.clock c.answer.ensures.follows c.answer.ensures.becomes in
-    ended_begin t t stamp s s u caller number (call_in p) Done e
+returns-then-deltas-eq0-clause-costs g c = ended_begin c.args.clock.now c.args.clock.now c.answer.new.clock c.args.segment.now c.args.segment.now c.answer.new.self c.args.asker.caller c.args.asker.number (call_in c.args.slip.now) Done (no_bytes g c)
+
+-- ---- the old bytes
 
 pub read_deltas-requires-clause-filling : goal.read_deltas-requires-clause-filling
 read_deltas-requires-clause-filling g c =
-    let s = c.args.segment.now in
-    let p = c.args.slip.now in
-    let caller = c.args.asker.caller in
-    let number = c.args.asker.number in
-    let t = c.args.clock.now in
-    let begin = is_beginning s caller.0 number p c.requires.sound c.requires.next c.requires.asked in
-    begin.filling
+    (is_beginning c.args.segment.now c.args.asker.caller.0 c.args.asker.number c.args.slip.now c.requires.sound c.requires.next c.requires.asked).filling
 
 pub read_deltas-requires-clause-may : goal.read_deltas-requires-clause-may
 read_deltas-requires-clause-may g c =
@@ -103,8 +73,8 @@ pub answer-requires-in-Some-clause-room : goal.answer-requires-in-Some-clause-ro
 answer-requires-in-Some-clause-room g c =
     room_last _ c.args.clock.now c.read_deltas.new.clock c.args.segment.now c.read_deltas.new.segment c.requires.room (c.if-not-read_deltas.ensures.brought refl).0
 
-pub returns-then-not-read_deltas-clause-sound : goal.returns-then-not-read_deltas-clause-sound
-returns-then-not-read_deltas-clause-sound g c =
+too_few : (g : Over) (c : After-answer_lost g) → IsEnded c.args.clock.now c.read_deltas.new.clock c.answer_lost.new.clock c.args.segment.now c.read_deltas.new.segment c.answer_lost.new.self c.args.asker.caller c.args.asker.number (call_in c.args.slip.now) Lost
+too_few g c =
     let s = c.args.segment.now in
     let p = c.args.slip.now in
     let caller = c.args.asker.caller in
@@ -113,80 +83,46 @@ returns-then-not-read_deltas-clause-sound g c =
     let begin = is_beginning s caller.0 number p c.requires.sound c.requires.next c.requires.asked in
     let v = c.read_deltas.new.segment in
     let mid = c.read_deltas.new.clock in
-    let u = c.answer_lost.new.self in
-    let stamp = c.answer_lost.new.clock in
     let lost = c.if-not-read_deltas.ensures.lost refl in
-    let e = lost_ended s v u caller number p c.read_deltas.new.slip t mid stamp c.requires.sound begin.free begin.few begin.none begin.newest lost.0 lost.1
-    (ap (λ (x : Paper). x.call) c.if-not-read_deltas.ensures.slip.0) c.answer_lost.ensures.clock c.answer_lost.ensures.follows c.answer_lost.ensures.becomes in
-    ended_sound t mid stamp s v u caller number (call_in p) Lost e
+    lost_ended s v c.answer_lost.new.self caller number p c.read_deltas.new.slip t mid c.answer_lost.new.clock c.requires.sound begin.free begin.few begin.none begin.newest lost.0 lost.1
+    (ap (λ (x : Paper). x.call) c.if-not-read_deltas.ensures.slip.0) c.answer_lost.ensures.clock c.answer_lost.ensures.follows c.answer_lost.ensures.becomes
+
+pub returns-then-not-read_deltas-clause-sound : goal.returns-then-not-read_deltas-clause-sound
+returns-then-not-read_deltas-clause-sound g c = ended_sound c.args.clock.now c.read_deltas.new.clock c.answer_lost.new.clock c.args.segment.now c.read_deltas.new.segment c.answer_lost.new.self c.args.asker.caller c.args.asker.number (call_in c.args.slip.now) Lost (too_few g c)
 
 pub returns-then-not-read_deltas-clause-makes : goal.returns-then-not-read_deltas-clause-makes
-returns-then-not-read_deltas-clause-makes g c =
-    let s = c.args.segment.now in
-    let p = c.args.slip.now in
-    let caller = c.args.asker.caller in
-    let number = c.args.asker.number in
-    let t = c.args.clock.now in
-    let begin = is_beginning s caller.0 number p c.requires.sound c.requires.next c.requires.asked in
-    let v = c.read_deltas.new.segment in
-    let mid = c.read_deltas.new.clock in
-    let u = c.answer_lost.new.self in
-    let stamp = c.answer_lost.new.clock in
-    let lost = c.if-not-read_deltas.ensures.lost refl in
-    let e = lost_ended s v u caller number p c.read_deltas.new.slip t mid stamp c.requires.sound begin.free begin.few begin.none begin.newest lost.0 lost.1
-    (ap (λ (x : Paper). x.call) c.if-not-read_deltas.ensures.slip.0) c.answer_lost.ensures.clock c.answer_lost.ensures.follows c.answer_lost.ensures.becomes in
-    rw c.answer_lost.ensures.outcome (λ w setting. ended_makes w t mid stamp s v u caller number (call_in p) Lost e setting)
+returns-then-not-read_deltas-clause-makes g c = rw c.answer_lost.ensures.outcome (λ w setting. ended_makes w c.args.clock.now c.read_deltas.new.clock c.answer_lost.new.clock c.args.segment.now c.read_deltas.new.segment c.answer_lost.new.self c.args.asker.caller c.args.asker.number (call_in c.args.slip.now) Lost (too_few g c) setting)
 
 pub returns-then-not-read_deltas-clause-outcome : goal.returns-then-not-read_deltas-clause-outcome
-returns-then-not-read_deltas-clause-outcome g c =
-    let s = c.args.segment.now in
-    let p = c.args.slip.now in
-    let caller = c.args.asker.caller in
-    let number = c.args.asker.number in
-    let t = c.args.clock.now in
-    let begin = is_beginning s caller.0 number p c.requires.sound c.requires.next c.requires.asked in
-    let v = c.read_deltas.new.segment in
-    let mid = c.read_deltas.new.clock in
-    let u = c.answer_lost.new.self in
-    let stamp = c.answer_lost.new.clock in
-    let lost = c.if-not-read_deltas.ensures.lost refl in
-    let e = lost_ended s v u caller number p c.read_deltas.new.slip t mid stamp c.requires.sound begin.free begin.few begin.none begin.newest lost.0 lost.1
-    (ap (λ (x : Paper). x.call) c.if-not-read_deltas.ensures.slip.0) c.answer_lost.ensures.clock c.answer_lost.ensures.follows c.answer_lost.ensures.becomes in
-    rw c.answer_lost.ensures.outcome (ended_outcome t mid stamp s v u caller number (call_in p) Lost c.answer_lost.new.slip e (ap (λ (x : Paper). x.reply) c.answer_lost.ensures.slip))
+returns-then-not-read_deltas-clause-outcome g c = rw c.answer_lost.ensures.outcome (ended_outcome c.args.clock.now c.read_deltas.new.clock c.answer_lost.new.clock c.args.segment.now c.read_deltas.new.segment c.answer_lost.new.self c.args.asker.caller c.args.asker.number (call_in c.args.slip.now) Lost c.answer_lost.new.slip (too_few g c) (ap (λ (x : Paper). x.reply) c.answer_lost.ensures.slip))
 
 pub returns-then-not-read_deltas-clause-costs : goal.returns-then-not-read_deltas-clause-costs
-returns-then-not-read_deltas-clause-costs g c =
-    let s = c.args.segment.now in
-    let p = c.args.slip.now in
-    let caller = c.args.asker.caller in
-    let number = c.args.asker.number in
-    let t = c.args.clock.now in
-    let begin = is_beginning s caller.0 number p c.requires.sound c.requires.next c.requires.asked in
-    let v = c.read_deltas.new.segment in
-    let mid = c.read_deltas.new.clock in
-    let u = c.answer_lost.new.self in
-    let stamp = c.answer_lost.new.clock in
-    let lost = c.if-not-read_deltas.ensures.lost refl in
-    let e = lost_ended s v u caller number p c.read_deltas.new.slip t mid stamp c.requires.sound begin.free begin.few begin.none begin.newest lost.0 lost.1
-    (ap (λ (x : Paper). x.call) c.if-not-read_deltas.ensures.slip.0) c.answer_lost.ensures.clock c.answer_lost.ensures.follows c.answer_lost.ensures.becomes in
-    ended_begin t mid stamp s v u caller number (call_in p) Lost e
+returns-then-not-read_deltas-clause-costs g c = ended_begin c.args.clock.now c.read_deltas.new.clock c.answer_lost.new.clock c.args.segment.now c.read_deltas.new.segment c.answer_lost.new.self c.args.asker.caller c.args.asker.number (call_in c.args.slip.now) Lost (too_few g c)
 
 pub returns-then-not-read_deltas-clause-rooms : goal.returns-then-not-read_deltas-clause-rooms
-returns-then-not-read_deltas-clause-rooms g c =
+returns-then-not-read_deltas-clause-rooms g c = ended_rooms c.args.clock.now c.read_deltas.new.clock c.answer_lost.new.clock c.args.segment.now c.read_deltas.new.segment c.answer_lost.new.self c.args.asker.caller c.args.asker.number (call_in c.args.slip.now) Lost (too_few g c)
+
+-- ---- what was brought
+
+brought : (g : Over) (c : After-are_bytes g) → IsBrought c.args.segment.now c.read_deltas.new.segment c.args.asker.caller.0 c.args.asker.number c.args.clock.now c.read_deltas.new.clock c.args.slip.now c.read_deltas.new.slip
+brought g c =
     let s = c.args.segment.now in
     let p = c.args.slip.now in
     let caller = c.args.asker.caller in
     let number = c.args.asker.number in
     let t = c.args.clock.now in
     let begin = is_beginning s caller.0 number p c.requires.sound c.requires.next c.requires.asked in
-    let v = c.read_deltas.new.segment in
-    let mid = c.read_deltas.new.clock in
-    let u = c.answer_lost.new.self in
-    let stamp = c.answer_lost.new.clock in
-    let lost = c.if-not-read_deltas.ensures.lost refl in
-    let e = lost_ended s v u caller number p c.read_deltas.new.slip t mid stamp c.requires.sound begin.free begin.few begin.none begin.newest lost.0 lost.1
-    (ap (λ (x : Paper). x.call) c.if-not-read_deltas.ensures.slip.0) c.answer_lost.ensures.clock c.answer_lost.ensures.follows c.answer_lost.ensures.becomes in
-    ended_rooms t mid stamp s v u caller number (call_in p) Lost e
+    let x = c.if-not-read_deltas.ensures.brought refl in
+    record {
+      sound = c.requires.sound;
+      is = begin;
+      reads = x.0;
+      few = x.1;
+      filled = x.2;
+      same = c.if-not-read_deltas.ensures.slip.0;
+      parts = c.if-not-read_deltas.ensures.slip.1;
+      bytes = c.are_bytes.ensures;
+    }
 
 pub differing-requires-clause-swap : goal.differing-requires-clause-swap
 differing-requires-clause-swap g c = λ off old new is.
@@ -195,568 +131,137 @@ differing-requires-clause-swap g c = λ off old new is.
     let caller = c.args.asker.caller in
     let number = c.args.asker.number in
     let t = c.args.clock.now in
-    let begin = is_beginning s caller.0 number p c.requires.sound c.requires.next c.requires.asked in
     let v = c.read_deltas.new.segment in
     let mid = c.read_deltas.new.clock in
-    let q = c.read_deltas.new.slip in
-    let x = c.if-not-read_deltas.ensures.brought refl in
-    let b : IsBrought s v caller.0 number t mid p q = record {
-      sound = c.requires.sound;
-      is = begin;
-      reads = x.0;
-      few = x.1;
-      filled = x.2;
-      same = c.if-not-read_deltas.ensures.slip.0;
-      parts = c.if-not-read_deltas.ensures.slip.1;
-      bytes = c.are_bytes.ensures;
-    } in
-    buffers_fit s v caller.0 number t mid off p q old new b is
+    buffers_fit s v caller.0 number t mid off p c.read_deltas.new.slip old new (brought g (goal.at.differing-requires-clause-swap g c).After-are_bytes) is
 
 pub answer-requires-in-Some-clause-call : goal.answer-requires-in-Some-clause-call
 answer-requires-in-Some-clause-call g c =
-    let s = c.args.segment.now in
-    let p = c.args.slip.now in
-    let caller = c.args.asker.caller in
-    let number = c.args.asker.number in
-    let t = c.args.clock.now in
-    let begin = is_beginning s caller.0 number p c.requires.sound c.requires.next c.requires.asked in
-    let v = c.read_deltas.new.segment in
-    let mid = c.read_deltas.new.clock in
-    let q = c.read_deltas.new.slip in
-    let x = c.if-not-read_deltas.ensures.brought refl in
-    let b : IsBrought s v caller.0 number t mid p q = record {
-      sound = c.requires.sound;
-      is = begin;
-      reads = x.0;
-      few = x.1;
-      filled = x.2;
-      same = c.if-not-read_deltas.ensures.slip.0;
-      parts = c.if-not-read_deltas.ensures.slip.1;
-      bytes = c.are_bytes.ensures;
-    } in
+    let b = brought g (goal.at.answer-requires-in-Some-clause-call g c).After-are_bytes in
     rw (ap (λ (y : Paper). y.call) c.in-Some.ensures.slip ∙ b.filled.has) refl
 
 pub answer-requires-in-Some-clause-link : goal.answer-requires-in-Some-clause-link
 answer-requires-in-Some-clause-link g c =
-    let s = c.args.segment.now in
-    let p = c.args.slip.now in
-    let caller = c.args.asker.caller in
-    let number = c.args.asker.number in
-    let t = c.args.clock.now in
-    let begin = is_beginning s caller.0 number p c.requires.sound c.requires.next c.requires.asked in
-    let v = c.read_deltas.new.segment in
-    let mid = c.read_deltas.new.clock in
-    let q = c.read_deltas.new.slip in
-    let x = c.if-not-read_deltas.ensures.brought refl in
-    let b : IsBrought s v caller.0 number t mid p q = record {
-      sound = c.requires.sound;
-      is = begin;
-      reads = x.0;
-      few = x.1;
-      filled = x.2;
-      same = c.if-not-read_deltas.ensures.slip.0;
-      parts = c.if-not-read_deltas.ensures.slip.1;
-      bytes = c.are_bytes.ensures;
-    } in
+    let b = brought g (goal.at.answer-requires-in-Some-clause-link g c).After-are_bytes in
     let one = ap (λ (y : Paper). y.links) c.in-Some.ensures.slip ∙ b.filled.links in omega (arith, one)
 
 pub answer-requires-in-Some-clause-unanswered : goal.answer-requires-in-Some-clause-unanswered
 answer-requires-in-Some-clause-unanswered g c =
-    let s = c.args.segment.now in
-    let p = c.args.slip.now in
-    let caller = c.args.asker.caller in
-    let number = c.args.asker.number in
-    let t = c.args.clock.now in
-    let begin = is_beginning s caller.0 number p c.requires.sound c.requires.next c.requires.asked in
-    let v = c.read_deltas.new.segment in
-    let mid = c.read_deltas.new.clock in
-    let q = c.read_deltas.new.slip in
-    let x = c.if-not-read_deltas.ensures.brought refl in
-    let b : IsBrought s v caller.0 number t mid p q = record {
-      sound = c.requires.sound;
-      is = begin;
-      reads = x.0;
-      few = x.1;
-      filled = x.2;
-      same = c.if-not-read_deltas.ensures.slip.0;
-      parts = c.if-not-read_deltas.ensures.slip.1;
-      bytes = c.are_bytes.ensures;
-    } in
+    let b = brought g (goal.at.answer-requires-in-Some-clause-unanswered g c).After-are_bytes in
     ap (λ (y : Paper). y.reply) c.in-Some.ensures.slip ∙ b.filled.unanswered
 
-pub returns-in-Some-clause-sound : goal.returns-in-Some-clause-sound
-returns-in-Some-clause-sound g c =
-    let s = c.args.segment.now in
-    let p = c.args.slip.now in
-    let caller = c.args.asker.caller in
-    let number = c.args.asker.number in
-    let t = c.args.clock.now in
-    let begin = is_beginning s caller.0 number p c.requires.sound c.requires.next c.requires.asked in
-    let v = c.read_deltas.new.segment in
-    let mid = c.read_deltas.new.clock in
-    let q = c.read_deltas.new.slip in
-    let x = c.if-not-read_deltas.ensures.brought refl in
-    let b : IsBrought s v caller.0 number t mid p q = record {
-      sound = c.requires.sound;
-      is = begin;
-      reads = x.0;
-      few = x.1;
-      filled = x.2;
-      same = c.if-not-read_deltas.ensures.slip.0;
-      parts = c.if-not-read_deltas.ensures.slip.1;
-      bytes = c.are_bytes.ensures;
-    } in
-    let u = c.answer-in-Some.new.self in
-    let stamp = c.answer-in-Some.new.clock in
+-- ---- a swap that finds other bytes
+
+differs : (g : Over) (c : After-answer-in-Some g) → IsBrought c.args.segment.now c.read_deltas.new.segment c.args.asker.caller.0 c.args.asker.number c.args.clock.now c.read_deltas.new.clock c.args.slip.now c.read_deltas.new.slip → IsEnded c.args.clock.now c.read_deltas.new.clock c.answer-in-Some.new.clock c.args.segment.now c.read_deltas.new.segment c.answer-in-Some.new.self c.args.asker.caller c.args.asker.number (call_in c.args.slip.now) (Differs c.in-Some.entered)
+differs g c b =
     let o = c.in-Some.ensures.other in
-    let e = differs_ended s v u caller number t mid stamp o.0 p q c.differing.new.slip o.1 o.2 c.in-Some.entered b (record { is = o.3; found_is = o.4; other = o.6 })
-    c.in-Some.ensures.slip c.answer-in-Some.ensures.clock c.answer-in-Some.ensures.follows c.answer-in-Some.ensures.becomes in
-    ended_sound t mid stamp s v u caller number (call_in p) (Differs c.in-Some.entered) e
+    differs_ended c.args.segment.now c.read_deltas.new.segment c.answer-in-Some.new.self c.args.asker.caller c.args.asker.number c.args.clock.now c.read_deltas.new.clock c.answer-in-Some.new.clock o.0
+    c.args.slip.now c.read_deltas.new.slip c.differing.new.slip o.1 o.2 c.in-Some.entered b (record { is = o.3; found_is = o.4; other = o.6 }) c.in-Some.ensures.slip c.answer-in-Some.ensures.clock
+    c.answer-in-Some.ensures.follows c.answer-in-Some.ensures.becomes
+
+pub returns-in-Some-clause-sound : goal.returns-in-Some-clause-sound
+returns-in-Some-clause-sound g c = ended_sound c.args.clock.now c.read_deltas.new.clock c.answer-in-Some.new.clock c.args.segment.now c.read_deltas.new.segment c.answer-in-Some.new.self c.args.asker.caller c.args.asker.number (call_in c.args.slip.now) (Differs c.in-Some.entered) (differs g c (brought g (goal.at.returns-in-Some-clause-sound g c).After-are_bytes))
 
 pub returns-in-Some-clause-makes : goal.returns-in-Some-clause-makes
-returns-in-Some-clause-makes g c =
-    let s = c.args.segment.now in
-    let p = c.args.slip.now in
-    let caller = c.args.asker.caller in
-    let number = c.args.asker.number in
-    let t = c.args.clock.now in
-    let begin = is_beginning s caller.0 number p c.requires.sound c.requires.next c.requires.asked in
-    let v = c.read_deltas.new.segment in
-    let mid = c.read_deltas.new.clock in
-    let q = c.read_deltas.new.slip in
-    let x = c.if-not-read_deltas.ensures.brought refl in
-    let b : IsBrought s v caller.0 number t mid p q = record {
-      sound = c.requires.sound;
-      is = begin;
-      reads = x.0;
-      few = x.1;
-      filled = x.2;
-      same = c.if-not-read_deltas.ensures.slip.0;
-      parts = c.if-not-read_deltas.ensures.slip.1;
-      bytes = c.are_bytes.ensures;
-    } in
-    let u = c.answer-in-Some.new.self in
-    let stamp = c.answer-in-Some.new.clock in
-    let o = c.in-Some.ensures.other in
-    let e = differs_ended s v u caller number t mid stamp o.0 p q c.differing.new.slip o.1 o.2 c.in-Some.entered b (record { is = o.3; found_is = o.4; other = o.6 })
-    c.in-Some.ensures.slip c.answer-in-Some.ensures.clock c.answer-in-Some.ensures.follows c.answer-in-Some.ensures.becomes in
-    rw c.answer-in-Some.ensures.outcome (λ w setting. ended_makes w t mid stamp s v u caller number (call_in p) (Differs c.in-Some.entered) e setting)
+returns-in-Some-clause-makes g c = rw c.answer-in-Some.ensures.outcome (λ w setting. ended_makes w c.args.clock.now c.read_deltas.new.clock c.answer-in-Some.new.clock c.args.segment.now c.read_deltas.new.segment c.answer-in-Some.new.self c.args.asker.caller c.args.asker.number (call_in c.args.slip.now) (Differs c.in-Some.entered) (differs g c (brought g (goal.at.returns-in-Some-clause-makes g c).After-are_bytes)) setting)
 
 pub returns-in-Some-clause-outcome : goal.returns-in-Some-clause-outcome
-returns-in-Some-clause-outcome g c =
-    let s = c.args.segment.now in
-    let p = c.args.slip.now in
-    let caller = c.args.asker.caller in
-    let number = c.args.asker.number in
-    let t = c.args.clock.now in
-    let begin = is_beginning s caller.0 number p c.requires.sound c.requires.next c.requires.asked in
-    let v = c.read_deltas.new.segment in
-    let mid = c.read_deltas.new.clock in
-    let q = c.read_deltas.new.slip in
-    let x = c.if-not-read_deltas.ensures.brought refl in
-    let b : IsBrought s v caller.0 number t mid p q = record {
-      sound = c.requires.sound;
-      is = begin;
-      reads = x.0;
-      few = x.1;
-      filled = x.2;
-      same = c.if-not-read_deltas.ensures.slip.0;
-      parts = c.if-not-read_deltas.ensures.slip.1;
-      bytes = c.are_bytes.ensures;
-    } in
-    let u = c.answer-in-Some.new.self in
-    let stamp = c.answer-in-Some.new.clock in
-    let o = c.in-Some.ensures.other in
-    let e = differs_ended s v u caller number t mid stamp o.0 p q c.differing.new.slip o.1 o.2 c.in-Some.entered b (record { is = o.3; found_is = o.4; other = o.6 })
-    c.in-Some.ensures.slip c.answer-in-Some.ensures.clock c.answer-in-Some.ensures.follows c.answer-in-Some.ensures.becomes in
-    rw c.answer-in-Some.ensures.outcome (ended_outcome t mid stamp s v u caller number (call_in p) (Differs c.in-Some.entered) c.answer-in-Some.new.slip e (ap (λ (x : Paper). x.reply) c.answer-in-Some.ensures.slip ∙ ap (λ (l : List ℕ). Some (Differs l)) (o.5 ∙ sym o.4)))
+returns-in-Some-clause-outcome g c = rw c.answer-in-Some.ensures.outcome (ended_outcome c.args.clock.now c.read_deltas.new.clock c.answer-in-Some.new.clock c.args.segment.now c.read_deltas.new.segment c.answer-in-Some.new.self c.args.asker.caller c.args.asker.number (call_in c.args.slip.now) (Differs c.in-Some.entered) c.answer-in-Some.new.slip (differs g c (brought g (goal.at.returns-in-Some-clause-outcome g c).After-are_bytes)) (ap (λ (x : Paper). x.reply) c.answer-in-Some.ensures.slip
+    ∙ ap (λ (l : List ℕ). Some (Differs l)) (c.in-Some.ensures.other.5 ∙ sym c.in-Some.ensures.other.4)))
 
 pub returns-in-Some-clause-costs : goal.returns-in-Some-clause-costs
-returns-in-Some-clause-costs g c =
-    let s = c.args.segment.now in
-    let p = c.args.slip.now in
-    let caller = c.args.asker.caller in
-    let number = c.args.asker.number in
-    let t = c.args.clock.now in
-    let begin = is_beginning s caller.0 number p c.requires.sound c.requires.next c.requires.asked in
-    let v = c.read_deltas.new.segment in
-    let mid = c.read_deltas.new.clock in
-    let q = c.read_deltas.new.slip in
-    let x = c.if-not-read_deltas.ensures.brought refl in
-    let b : IsBrought s v caller.0 number t mid p q = record {
-      sound = c.requires.sound;
-      is = begin;
-      reads = x.0;
-      few = x.1;
-      filled = x.2;
-      same = c.if-not-read_deltas.ensures.slip.0;
-      parts = c.if-not-read_deltas.ensures.slip.1;
-      bytes = c.are_bytes.ensures;
-    } in
-    let u = c.answer-in-Some.new.self in
-    let stamp = c.answer-in-Some.new.clock in
-    let o = c.in-Some.ensures.other in
-    let e = differs_ended s v u caller number t mid stamp o.0 p q c.differing.new.slip o.1 o.2 c.in-Some.entered b (record { is = o.3; found_is = o.4; other = o.6 })
-    c.in-Some.ensures.slip c.answer-in-Some.ensures.clock c.answer-in-Some.ensures.follows c.answer-in-Some.ensures.becomes in
-    ended_begin t mid stamp s v u caller number (call_in p) (Differs c.in-Some.entered) e
+returns-in-Some-clause-costs g c = ended_begin c.args.clock.now c.read_deltas.new.clock c.answer-in-Some.new.clock c.args.segment.now c.read_deltas.new.segment c.answer-in-Some.new.self c.args.asker.caller c.args.asker.number (call_in c.args.slip.now) (Differs c.in-Some.entered) (differs g c (brought g (goal.at.returns-in-Some-clause-costs g c).After-are_bytes))
 
 pub returns-in-Some-clause-rooms : goal.returns-in-Some-clause-rooms
-returns-in-Some-clause-rooms g c =
-    let s = c.args.segment.now in
-    let p = c.args.slip.now in
-    let caller = c.args.asker.caller in
-    let number = c.args.asker.number in
-    let t = c.args.clock.now in
-    let begin = is_beginning s caller.0 number p c.requires.sound c.requires.next c.requires.asked in
-    let v = c.read_deltas.new.segment in
-    let mid = c.read_deltas.new.clock in
-    let q = c.read_deltas.new.slip in
-    let x = c.if-not-read_deltas.ensures.brought refl in
-    let b : IsBrought s v caller.0 number t mid p q = record {
-      sound = c.requires.sound;
-      is = begin;
-      reads = x.0;
-      few = x.1;
-      filled = x.2;
-      same = c.if-not-read_deltas.ensures.slip.0;
-      parts = c.if-not-read_deltas.ensures.slip.1;
-      bytes = c.are_bytes.ensures;
-    } in
-    let u = c.answer-in-Some.new.self in
-    let stamp = c.answer-in-Some.new.clock in
-    let o = c.in-Some.ensures.other in
-    let e = differs_ended s v u caller number t mid stamp o.0 p q c.differing.new.slip o.1 o.2 c.in-Some.entered b (record { is = o.3; found_is = o.4; other = o.6 })
-    c.in-Some.ensures.slip c.answer-in-Some.ensures.clock c.answer-in-Some.ensures.follows c.answer-in-Some.ensures.becomes in
-    ended_rooms t mid stamp s v u caller number (call_in p) (Differs c.in-Some.entered) e
+returns-in-Some-clause-rooms g c = ended_rooms c.args.clock.now c.read_deltas.new.clock c.answer-in-Some.new.clock c.args.segment.now c.read_deltas.new.segment c.answer-in-Some.new.self c.args.asker.caller c.args.asker.number (call_in c.args.slip.now) (Differs c.in-Some.entered) (differs g c (brought g (goal.at.returns-in-Some-clause-rooms g c).After-are_bytes))
+
+-- ---- the claims
 
 pub claim-requires-clause-none : goal.claim-requires-clause-none
 claim-requires-clause-none g c =
-    let s = c.args.segment.now in
-    let p = c.args.slip.now in
-    let caller = c.args.asker.caller in
-    let number = c.args.asker.number in
-    let t = c.args.clock.now in
-    let begin = is_beginning s caller.0 number p c.requires.sound c.requires.next c.requires.asked in
-    let v = c.read_deltas.new.segment in
-    let mid = c.read_deltas.new.clock in
-    let q = c.read_deltas.new.slip in
-    let x = c.if-not-read_deltas.ensures.brought refl in
-    let b : IsBrought s v caller.0 number t mid p q = record {
-      sound = c.requires.sound;
-      is = begin;
-      reads = x.0;
-      few = x.1;
-      filled = x.2;
-      same = c.if-not-read_deltas.ensures.slip.0;
-      parts = c.if-not-read_deltas.ensures.slip.1;
-      bytes = c.are_bytes.ensures;
-    } in
-    let old : c.segment.inside.claims ≡ s.claims = ap (λ (y : Seg). y.claims) c.segment.view_is ∙ ap (λ (y : Seg). y.claims) b.reads.becomes in
-    subst (HasNone caller.0) (sym old) begin.idle
+    let b = brought g (goal.at.claim-requires-clause-none g c).After-are_bytes in
+    let old : c.segment.inside.claims ≡ c.args.segment.now.claims = ap (λ (y : Seg). y.claims) c.segment.view_is ∙ ap (λ (y : Seg). y.claims) b.reads.becomes in
+    subst (HasNone c.args.asker.caller.0) (sym old) b.is.idle
 
 pub claim-requires-clause-free : goal.claim-requires-clause-free
 claim-requires-clause-free g c =
-    let s = c.args.segment.now in
-    let p = c.args.slip.now in
-    let caller = c.args.asker.caller in
-    let number = c.args.asker.number in
-    let t = c.args.clock.now in
-    let begin = is_beginning s caller.0 number p c.requires.sound c.requires.next c.requires.asked in
-    let v = c.read_deltas.new.segment in
-    let mid = c.read_deltas.new.clock in
-    let q = c.read_deltas.new.slip in
-    let x = c.if-not-read_deltas.ensures.brought refl in
-    let b : IsBrought s v caller.0 number t mid p q = record {
-      sound = c.requires.sound;
-      is = begin;
-      reads = x.0;
-      few = x.1;
-      filled = x.2;
-      same = c.if-not-read_deltas.ensures.slip.0;
-      parts = c.if-not-read_deltas.ensures.slip.1;
-      bytes = c.are_bytes.ensures;
-    } in
-    let old : c.segment.inside.claims ≡ s.claims = ap (λ (y : Seg). y.claims) c.segment.view_is ∙ ap (λ (y : Seg). y.claims) b.reads.becomes in
-    let cs : changes_of c.make_deltas.new.self ≡ map made (changes_of q) =
+    let b = brought g (goal.at.claim-requires-clause-free g c).After-are_bytes in
+    let old : c.segment.inside.claims ≡ c.args.segment.now.claims = ap (λ (y : Seg). y.claims) c.segment.view_is ∙ ap (λ (y : Seg). y.claims) b.reads.becomes in
+    let cs : changes_of c.make_deltas.new.self ≡ map made (changes_of c.read_deltas.new.slip) =
     ap changes_of c.make_deltas.ensures ∙ ap (λ (y : Paper). map made (changes_of y)) c.in-None.ensures.slip in
     subst (λ (l : List (Option Claim)). All (λ (y : Change). claim_at l y.part.block ≡ None) (changes_of c.make_deltas.new.self)) (sym old)
-    (subst (All (λ (y : Change). claim_at s.claims y.part.block ≡ None)) (sym cs) (changes_free s v caller.0 number t mid p q b))
+    (subst (All (λ (y : Change). claim_at c.args.segment.now.claims y.part.block ≡ None)) (sym cs)
+    (changes_free c.args.segment.now c.read_deltas.new.segment c.args.asker.caller.0 c.args.asker.number c.args.clock.now c.read_deltas.new.clock c.args.slip.now c.read_deltas.new.slip b))
+
+-- the segment with the claims
+abbrev claimed : (g : Over) (c : After-claim g) → Seg
+claimed g c = record {
+  site = record {
+    shape = c.segment.inside.shape;
+    segment = c.segment.inside.segment.0;
+    nodes = c.segment.inside.nodes;
+    told = told_by c.segment.inside.columns;
+  };
+  frail = c.segment.inside.frail.items;
+  pools = pools_by c.segment.inside.columns;
+  log = c.segment.inside.chronicle;
+  cols = c.segment.inside.columns;
+  cuts = c.segment.inside.cuts;
+  claims = c.claim.new.self;
+  version = c.segment.inside.version;
+  rebuild = c.segment.inside.rebuild;
+}
+
+becomes : (g : Over) (c : After-claim g)
+    → claimed g c ≡ record c.read_deltas.new.segment {
+      claims = with_claims c.args.asker.caller c.args.asker.number (map made (changes_of c.read_deltas.new.slip)) c.read_deltas.new.segment.claims;
+    }
+becomes g c =
+    let v = c.read_deltas.new.segment in
+    let caller = c.args.asker.caller in
+    let number = c.args.asker.number in
+    let mine = map made (changes_of c.read_deltas.new.slip) in
+    let cs : changes_of c.make_deltas.new.self ≡ mine = ap changes_of c.make_deltas.ensures ∙ ap (λ (y : Paper). map made (changes_of y)) c.in-None.ensures.slip in
+    let old : c.segment.inside.claims ≡ v.claims = ap (λ (y : Seg). y.claims) c.segment.view_is in
+    let now : c.claim.new.self ≡ with_claims caller number mine v.claims =
+    c.claim.ensures.claims ∙ ap (λ (l : List Change). with_claims caller number l c.segment.inside.claims) cs ∙ ap (with_claims caller number mine) old in
+    ap (λ (l : List (Option Claim)). record (claimed g c) { claims = l }) now ∙ ap (λ (y : Seg). record y { claims = with_claims caller number mine v.claims }) c.segment.view_is
+
+some_changes : (g : Over) (c : After-are_bytes g) → 0 < length (changes_of c.args.slip.now)
+some_changes g c = omega (arith, c.deltas.ensures, c.if-deltas-eq0.false)
 
 pub returns-in-None-clause-sound : goal.returns-in-None-clause-sound
 returns-in-None-clause-sound g c =
-    let s = c.args.segment.now in
-    let p = c.args.slip.now in
-    let caller = c.args.asker.caller in
-    let number = c.args.asker.number in
-    let t = c.args.clock.now in
-    let begin = is_beginning s caller.0 number p c.requires.sound c.requires.next c.requires.asked in
-    let v = c.read_deltas.new.segment in
-    let mid = c.read_deltas.new.clock in
-    let q = c.read_deltas.new.slip in
-    let x = c.if-not-read_deltas.ensures.brought refl in
-    let b : IsBrought s v caller.0 number t mid p q = record {
-      sound = c.requires.sound;
-      is = begin;
-      reads = x.0;
-      few = x.1;
-      filled = x.2;
-      same = c.if-not-read_deltas.ensures.slip.0;
-      parts = c.if-not-read_deltas.ensures.slip.1;
-      bytes = c.are_bytes.ensures;
-    } in
-    let r = c.differing.new.slip in
-    let i = c.segment.inside in
-    let some : 0 < length (changes_of p) = omega (arith, c.deltas.ensures, c.if-deltas-eq0.false) in
-    let cs : changes_of c.make_deltas.new.self ≡ map made (changes_of q) =
-    ap changes_of c.make_deltas.ensures ∙ ap (λ (y : Paper). map made (changes_of y)) c.in-None.ensures.slip in
-    let u : Seg = record {
-      site = record { shape = i.shape; segment = i.segment.0; nodes = i.nodes; told = told_by i.columns };
-      frail = i.frail.items;
-      pools = pools_by i.columns;
-      log = i.chronicle;
-      cols = i.columns;
-      cuts = i.cuts;
-      claims = c.claim.new.self;
-      version = i.version;
-      rebuild = i.rebuild;
-    } in
-    let old : i.claims ≡ v.claims = ap (λ (y : Seg). y.claims) c.segment.view_is in
-    let now : c.claim.new.self ≡ with_claims caller number (map made (changes_of q)) v.claims =
-    c.claim.ensures.claims ∙ ap (λ (l : List Change). with_claims caller number l i.claims) cs ∙ ap (with_claims caller number (map made (changes_of q))) old in
-    let becomes : u ≡ record v { claims = with_claims caller number (map made (changes_of q)) v.claims } =
-    ap (λ (l : List (Option Claim)). record u { claims = l }) now
-    ∙ ap (λ (y : Seg). record y { claims = with_claims caller number (map made (changes_of q)) v.claims }) c.segment.view_is in
-    moved_sound s v u caller number t mid p q b some c.in-None.ensures.same becomes
+    let b = brought g (goal.at.returns-in-None-clause-sound g c).After-are_bytes in
+    moved_sound c.args.segment.now c.read_deltas.new.segment (claimed g (goal.at.returns-in-None-clause-sound g c).After-claim) c.args.asker.caller c.args.asker.number c.args.clock.now c.read_deltas.new.clock c.args.slip.now c.read_deltas.new.slip b (some_changes g (goal.at.returns-in-None-clause-sound g c).After-are_bytes) c.in-None.ensures.same (becomes g (goal.at.returns-in-None-clause-sound g c).After-claim)
 
 pub returns-in-None-clause-makes : goal.returns-in-None-clause-makes
 returns-in-None-clause-makes g c =
-    let s = c.args.segment.now in
-    let p = c.args.slip.now in
-    let caller = c.args.asker.caller in
-    let number = c.args.asker.number in
-    let t = c.args.clock.now in
-    let begin = is_beginning s caller.0 number p c.requires.sound c.requires.next c.requires.asked in
-    let v = c.read_deltas.new.segment in
-    let mid = c.read_deltas.new.clock in
-    let q = c.read_deltas.new.slip in
-    let x = c.if-not-read_deltas.ensures.brought refl in
-    let b : IsBrought s v caller.0 number t mid p q = record {
-      sound = c.requires.sound;
-      is = begin;
-      reads = x.0;
-      few = x.1;
-      filled = x.2;
-      same = c.if-not-read_deltas.ensures.slip.0;
-      parts = c.if-not-read_deltas.ensures.slip.1;
-      bytes = c.are_bytes.ensures;
-    } in
-    let r = c.differing.new.slip in
-    let i = c.segment.inside in
-    let some : 0 < length (changes_of p) = omega (arith, c.deltas.ensures, c.if-deltas-eq0.false) in
-    let cs : changes_of c.make_deltas.new.self ≡ map made (changes_of q) =
-    ap changes_of c.make_deltas.ensures ∙ ap (λ (y : Paper). map made (changes_of y)) c.in-None.ensures.slip in
-    let u : Seg = record {
-      site = record { shape = i.shape; segment = i.segment.0; nodes = i.nodes; told = told_by i.columns };
-      frail = i.frail.items;
-      pools = pools_by i.columns;
-      log = i.chronicle;
-      cols = i.columns;
-      cuts = i.cuts;
-      claims = c.claim.new.self;
-      version = i.version;
-      rebuild = i.rebuild;
-    } in
-    let old : i.claims ≡ v.claims = ap (λ (y : Seg). y.claims) c.segment.view_is in
-    let now : c.claim.new.self ≡ with_claims caller number (map made (changes_of q)) v.claims =
-    c.claim.ensures.claims ∙ ap (λ (l : List Change). with_claims caller number l i.claims) cs ∙ ap (with_claims caller number (map made (changes_of q))) old in
-    let becomes : u ≡ record v { claims = with_claims caller number (map made (changes_of q)) v.claims } =
-    ap (λ (l : List (Option Claim)). record u { claims = l }) now
-    ∙ ap (λ (y : Seg). record y { claims = with_claims caller number (map made (changes_of q)) v.claims }) c.segment.view_is in
-    (moved s v u caller number t mid p q b some c.in-None.ensures.same becomes).0
+    let b = brought g (goal.at.returns-in-None-clause-makes g c).After-are_bytes in
+    (moved c.args.segment.now c.read_deltas.new.segment (claimed g (goal.at.returns-in-None-clause-makes g c).After-claim) c.args.asker.caller c.args.asker.number c.args.clock.now c.read_deltas.new.clock c.args.slip.now c.read_deltas.new.slip b (some_changes g (goal.at.returns-in-None-clause-makes g c).After-are_bytes) c.in-None.ensures.same (becomes g (goal.at.returns-in-None-clause-makes g c).After-claim)).0
 
 pub returns-in-None-clause-outcome : goal.returns-in-None-clause-outcome
 returns-in-None-clause-outcome g c =
-    let s = c.args.segment.now in
-    let p = c.args.slip.now in
-    let caller = c.args.asker.caller in
-    let number = c.args.asker.number in
-    let t = c.args.clock.now in
-    let begin = is_beginning s caller.0 number p c.requires.sound c.requires.next c.requires.asked in
-    let v = c.read_deltas.new.segment in
-    let mid = c.read_deltas.new.clock in
-    let q = c.read_deltas.new.slip in
-    let x = c.if-not-read_deltas.ensures.brought refl in
-    let b : IsBrought s v caller.0 number t mid p q = record {
-      sound = c.requires.sound;
-      is = begin;
-      reads = x.0;
-      few = x.1;
-      filled = x.2;
-      same = c.if-not-read_deltas.ensures.slip.0;
-      parts = c.if-not-read_deltas.ensures.slip.1;
-      bytes = c.are_bytes.ensures;
-    } in
-    let r = c.differing.new.slip in
-    let i = c.segment.inside in
-    let some : 0 < length (changes_of p) = omega (arith, c.deltas.ensures, c.if-deltas-eq0.false) in
-    let cs : changes_of c.make_deltas.new.self ≡ map made (changes_of q) =
-    ap changes_of c.make_deltas.ensures ∙ ap (λ (y : Paper). map made (changes_of y)) c.in-None.ensures.slip in
-    let u : Seg = record {
-      site = record { shape = i.shape; segment = i.segment.0; nodes = i.nodes; told = told_by i.columns };
-      frail = i.frail.items;
-      pools = pools_by i.columns;
-      log = i.chronicle;
-      cols = i.columns;
-      cuts = i.cuts;
-      claims = c.claim.new.self;
-      version = i.version;
-      rebuild = i.rebuild;
-    } in
-    let old : i.claims ≡ v.claims = ap (λ (y : Seg). y.claims) c.segment.view_is in
-    let now : c.claim.new.self ≡ with_claims caller number (map made (changes_of q)) v.claims =
-    c.claim.ensures.claims ∙ ap (λ (l : List Change). with_claims caller number l i.claims) cs ∙ ap (with_claims caller number (map made (changes_of q))) old in
-    let becomes : u ≡ record v { claims = with_claims caller number (map made (changes_of q)) v.claims } =
-    ap (λ (l : List (Option Claim)). record u { claims = l }) now
-    ∙ ap (λ (y : Seg). record y { claims = with_claims caller number (map made (changes_of q)) v.claims }) c.segment.view_is in (
-      (moved s v u caller number t mid p q b some c.in-None.ensures.same becomes).1,
-      has_begun s v caller.0 number t mid p q r c.claim.new.slip b c.in-None.ensures.slip
+    let b = brought g (goal.at.returns-in-None-clause-outcome g c).After-are_bytes in (
+      (moved c.args.segment.now c.read_deltas.new.segment (claimed g (goal.at.returns-in-None-clause-outcome g c).After-claim) c.args.asker.caller c.args.asker.number c.args.clock.now c.read_deltas.new.clock c.args.slip.now c.read_deltas.new.slip b (some_changes g (goal.at.returns-in-None-clause-outcome g c).After-are_bytes) c.in-None.ensures.same (becomes g (goal.at.returns-in-None-clause-outcome g c).After-claim)).1,
+      has_begun c.args.segment.now c.read_deltas.new.segment c.args.asker.caller.0 c.args.asker.number c.args.clock.now c.read_deltas.new.clock c.args.slip.now c.read_deltas.new.slip c.differing.new.slip c.claim.new.slip b c.in-None.ensures.slip
           (c.claim.ensures.slip ∙ ap (λ (y : Paper). record y { changes = None }) c.make_deltas.ensures),
     )
 
 pub returns-in-None-clause-exact : goal.returns-in-None-clause-exact
 returns-in-None-clause-exact g c =
-    let s = c.args.segment.now in
-    let p = c.args.slip.now in
-    let caller = c.args.asker.caller in
-    let number = c.args.asker.number in
-    let t = c.args.clock.now in
-    let begin = is_beginning s caller.0 number p c.requires.sound c.requires.next c.requires.asked in
-    let v = c.read_deltas.new.segment in
-    let mid = c.read_deltas.new.clock in
-    let q = c.read_deltas.new.slip in
-    let x = c.if-not-read_deltas.ensures.brought refl in
-    let b : IsBrought s v caller.0 number t mid p q = record {
-      sound = c.requires.sound;
-      is = begin;
-      reads = x.0;
-      few = x.1;
-      filled = x.2;
-      same = c.if-not-read_deltas.ensures.slip.0;
-      parts = c.if-not-read_deltas.ensures.slip.1;
-      bytes = c.are_bytes.ensures;
-    } in
-    let r = c.differing.new.slip in
-    let i = c.segment.inside in
-    let some : 0 < length (changes_of p) = omega (arith, c.deltas.ensures, c.if-deltas-eq0.false) in
-    let cs : changes_of c.make_deltas.new.self ≡ map made (changes_of q) =
-    ap changes_of c.make_deltas.ensures ∙ ap (λ (y : Paper). map made (changes_of y)) c.in-None.ensures.slip in
-    let u : Seg = record {
-      site = record { shape = i.shape; segment = i.segment.0; nodes = i.nodes; told = told_by i.columns };
-      frail = i.frail.items;
-      pools = pools_by i.columns;
-      log = i.chronicle;
-      cols = i.columns;
-      cuts = i.cuts;
-      claims = c.claim.new.self;
-      version = i.version;
-      rebuild = i.rebuild;
-    } in
-    let old : i.claims ≡ v.claims = ap (λ (y : Seg). y.claims) c.segment.view_is in
-    let now : c.claim.new.self ≡ with_claims caller number (map made (changes_of q)) v.claims =
-    c.claim.ensures.claims ∙ ap (λ (l : List Change). with_claims caller number l i.claims) cs ∙ ap (with_claims caller number (map made (changes_of q))) old in
-    let becomes : u ≡ record v { claims = with_claims caller number (map made (changes_of q)) v.claims } =
-    ap (λ (l : List (Option Claim)). record u { claims = l }) now
-    ∙ ap (λ (y : Seg). record y { claims = with_claims caller number (map made (changes_of q)) v.claims }) c.segment.view_is in
-    λ w. ap (λ (y : Seg). y.rebuild) becomes ∙ ap (λ (y : Seg). y.rebuild) b.reads.becomes
+    let b = brought g (goal.at.returns-in-None-clause-exact g c).After-are_bytes in
+    λ w. ap (λ (y : Seg). y.rebuild) (becomes g (goal.at.returns-in-None-clause-exact g c).After-claim) ∙ ap (λ (y : Seg). y.rebuild) b.reads.becomes
 
 pub returns-in-None-clause-costs : goal.returns-in-None-clause-costs
 returns-in-None-clause-costs g c =
-    let s = c.args.segment.now in
-    let p = c.args.slip.now in
-    let caller = c.args.asker.caller in
-    let number = c.args.asker.number in
-    let t = c.args.clock.now in
-    let begin = is_beginning s caller.0 number p c.requires.sound c.requires.next c.requires.asked in
-    let v = c.read_deltas.new.segment in
-    let mid = c.read_deltas.new.clock in
-    let q = c.read_deltas.new.slip in
-    let x = c.if-not-read_deltas.ensures.brought refl in
-    let b : IsBrought s v caller.0 number t mid p q = record {
-      sound = c.requires.sound;
-      is = begin;
-      reads = x.0;
-      few = x.1;
-      filled = x.2;
-      same = c.if-not-read_deltas.ensures.slip.0;
-      parts = c.if-not-read_deltas.ensures.slip.1;
-      bytes = c.are_bytes.ensures;
-    } in
-    let r = c.differing.new.slip in
-    let i = c.segment.inside in
-    let some : 0 < length (changes_of p) = omega (arith, c.deltas.ensures, c.if-deltas-eq0.false) in
-    let cs : changes_of c.make_deltas.new.self ≡ map made (changes_of q) =
-    ap changes_of c.make_deltas.ensures ∙ ap (λ (y : Paper). map made (changes_of y)) c.in-None.ensures.slip in
-    let u : Seg = record {
-      site = record { shape = i.shape; segment = i.segment.0; nodes = i.nodes; told = told_by i.columns };
-      frail = i.frail.items;
-      pools = pools_by i.columns;
-      log = i.chronicle;
-      cols = i.columns;
-      cuts = i.cuts;
-      claims = c.claim.new.self;
-      version = i.version;
-      rebuild = i.rebuild;
-    } in
-    let old : i.claims ≡ v.claims = ap (λ (y : Seg). y.claims) c.segment.view_is in
-    let now : c.claim.new.self ≡ with_claims caller number (map made (changes_of q)) v.claims =
-    c.claim.ensures.claims ∙ ap (λ (l : List Change). with_claims caller number l i.claims) cs ∙ ap (with_claims caller number (map made (changes_of q))) old in
-    let becomes : u ≡ record v { claims = with_claims caller number (map made (changes_of q)) v.claims } =
-    ap (λ (l : List (Option Claim)). record u { claims = l }) now
-    ∙ ap (λ (y : Seg). record y { claims = with_claims caller number (map made (changes_of q)) v.claims }) c.segment.view_is in
-    costs_begin s v u caller.0 (call_in p) t mid (update_reads s v caller.0 number t mid p q b) (ap (λ (y : Seg). y.cols) becomes) (ap (λ (y : Seg). y.rebuild) becomes ∙ ap (λ (y : Seg). y.rebuild) b.reads.becomes)
+    let b = brought g (goal.at.returns-in-None-clause-costs g c).After-are_bytes in
+    costs_begin c.args.segment.now c.read_deltas.new.segment (claimed g (goal.at.returns-in-None-clause-costs g c).After-claim) c.args.asker.caller.0 (call_in c.args.slip.now) c.args.clock.now c.read_deltas.new.clock
+    (update_reads c.args.segment.now c.read_deltas.new.segment c.args.asker.caller.0 c.args.asker.number c.args.clock.now c.read_deltas.new.clock c.args.slip.now c.read_deltas.new.slip b) (ap (λ (y : Seg). y.cols) (becomes g (goal.at.returns-in-None-clause-costs g c).After-claim))
+    (ap (λ (y : Seg). y.rebuild) (becomes g (goal.at.returns-in-None-clause-costs g c).After-claim) ∙ ap (λ (y : Seg). y.rebuild) b.reads.becomes)
 
 pub returns-in-None-clause-rooms : goal.returns-in-None-clause-rooms
 returns-in-None-clause-rooms g c =
-    let s = c.args.segment.now in
-    let p = c.args.slip.now in
-    let caller = c.args.asker.caller in
-    let number = c.args.asker.number in
-    let t = c.args.clock.now in
-    let begin = is_beginning s caller.0 number p c.requires.sound c.requires.next c.requires.asked in
-    let v = c.read_deltas.new.segment in
-    let mid = c.read_deltas.new.clock in
-    let q = c.read_deltas.new.slip in
-    let x = c.if-not-read_deltas.ensures.brought refl in
-    let b : IsBrought s v caller.0 number t mid p q = record {
-      sound = c.requires.sound;
-      is = begin;
-      reads = x.0;
-      few = x.1;
-      filled = x.2;
-      same = c.if-not-read_deltas.ensures.slip.0;
-      parts = c.if-not-read_deltas.ensures.slip.1;
-      bytes = c.are_bytes.ensures;
-    } in
-    let r = c.differing.new.slip in
-    let i = c.segment.inside in
-    let some : 0 < length (changes_of p) = omega (arith, c.deltas.ensures, c.if-deltas-eq0.false) in
-    let cs : changes_of c.make_deltas.new.self ≡ map made (changes_of q) =
-    ap changes_of c.make_deltas.ensures ∙ ap (λ (y : Paper). map made (changes_of y)) c.in-None.ensures.slip in
-    let u : Seg = record {
-      site = record { shape = i.shape; segment = i.segment.0; nodes = i.nodes; told = told_by i.columns };
-      frail = i.frail.items;
-      pools = pools_by i.columns;
-      log = i.chronicle;
-      cols = i.columns;
-      cuts = i.cuts;
-      claims = c.claim.new.self;
-      version = i.version;
-      rebuild = i.rebuild;
-    } in
-    let old : i.claims ≡ v.claims = ap (λ (y : Seg). y.claims) c.segment.view_is in
-    let now : c.claim.new.self ≡ with_claims caller number (map made (changes_of q)) v.claims =
-    c.claim.ensures.claims ∙ ap (λ (l : List Change). with_claims caller number l i.claims) cs ∙ ap (with_claims caller number (map made (changes_of q))) old in
-    let becomes : u ≡ record v { claims = with_claims caller number (map made (changes_of q)) v.claims } =
-    ap (λ (l : List (Option Claim)). record u { claims = l }) now
-    ∙ ap (λ (y : Seg). record y { claims = with_claims caller number (map made (changes_of q)) v.claims }) c.segment.view_is in
-    rooms_kept (part_reads s.site.shape.k s.cols (parts_in (changes_of p))) t mid s v u c.requires.sound b.reads (ap (λ (y : Seg). y.cols) becomes) (ap (λ (y : Seg). y.rebuild) becomes)
+    let b = brought g (goal.at.returns-in-None-clause-rooms g c).After-are_bytes in
+    rooms_kept (part_reads c.args.segment.now.site.shape.k c.args.segment.now.cols (parts_in (changes_of c.args.slip.now))) c.args.clock.now c.read_deltas.new.clock c.args.segment.now c.read_deltas.new.segment (claimed g (goal.at.returns-in-None-clause-rooms g c).After-claim) c.requires.sound b.reads
+    (ap (λ (y : Seg). y.cols) (becomes g (goal.at.returns-in-None-clause-rooms g c).After-claim)) (ap (λ (y : Seg). y.rebuild) (becomes g (goal.at.returns-in-None-clause-rooms g c).After-claim))

@@ -1,4 +1,4 @@
-use Rattle.std.proofs.Common.{◌≡◌, ◌∙◌, ◌<◌, ◌≤◌, ℕ, length, refl, ap, arith, length-set}
+use Rattle.std.proofs.Common.{◌≡◌, ◌∙◌, ◌*◌, ◌<◌, ◌≤◌, ℕ, length, refl, ap, arith, length-set}
 use Rattle.cod_code.specs.Columns.{row_at}
 use Rattle.cod_repair.proofs.Encoding.{encoded, part, parts_more, sources_long}
 use Rattle.cod_repair.proofs.bench.encode.Goals as goal
@@ -15,7 +15,7 @@ loop-j-preserved c =
 pub set_all_scaled-requires-clause-same_length : goal.set_all_scaled-requires-clause-same_length
 set_all_scaled-requires-clause-same_length c =
     let all : c.loop-j.j ≡ c.k-data.result = (let e = c.loop-j.auto.j-end in let t = c.loop-j-test.false in omega (arith, e, t)) in
-    let long = c.requires.segment in
+    let long : c.args.g.now.k * c.args.g.now.block ≤ length c.args.segment.now = omega (arith, c.requires.segment) in
     let each = rw (all, c.block-block.ensures, c.k-data.ensures.value) at c.loop-j.invariant.each in
     rw (c.requires.room, c.k-data.ensures.value) (sources_long c.args.segment.now c.args.g.now.k c.args.g.now.block _ long each)
 

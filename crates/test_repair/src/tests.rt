@@ -1,6 +1,6 @@
 //! That there is memory for a bench and for columns.
-use super::*;
 use cod_region::MemRegion;
+use cod_repair::{Bench, Columns};
 use cod_types::Geometry;
 
 #[test]
