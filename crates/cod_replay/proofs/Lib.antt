@@ -1,0 +1,7 @@
+pub mod Rooming
+pub mod Dating
+pub mod Playing
+pub mod Turning
+pub mod Ending
+pub mod Making
+pub mod Starting
