@@ -10,9 +10,7 @@ use Rattle.cod_scenario.specs.declared.refusal.Refusal.{Refusal}
 use Rattle.cod_scenario.specs.declared.refusal.Refusal.TheVariants.{TooLong}
 use Rattle.cod_tool.specs.declared.command.Command.TheVariants as command
 use Rattle.cod_tool.specs.declared.command.Purpose.{Purpose}
-use Rattle.cod_tool.specs.declared.command.Purpose.TheVariants as purpose
-use Rattle.cod_tool.specs.Built.{is_built}
-use Rattle.cod_tool.specs.Replays.{CanServe, ReadsScenario, RefusesScenario, RefusesText}
+use Rattle.cod_tool.specs.Replays.{CanServe, RefusesText}
 
 -- bytes that were read to the end are all that there were
 all_read : (bytes front : List ℕ) (left : Option (List ℕ)) → Some bytes ≡ prepend_known front left → IsAtEnd left → bytes ≡ front
@@ -40,27 +38,10 @@ text_stands bytes x left left' Took is text r =
       | inr short ↦ (let same = all_read bytes r.bytes left' read (r.end short) in let e : reads bytes ≡ Err (r.line, r.why) = ap reads same ∙ r.refused in cc)
     ]
 
-scenario_stands : (asked : Purpose) (bytes : List ℕ) (x : Script) (left left' : Option (List ℕ)) (Took : List ℕ → Type 0) → left ≡ Some bytes → reads bytes ≡ Ok x
-    → (asked ≡ purpose.Replay → is_built x ≡ true) → ReadsScenario (RefusesScenario asked Took) left left' → ⊥
-scenario_stands purpose.Replay bytes x left left' Took is text built r =
-    let read : Some bytes ≡ prepend_known r.bytes left' = sym is ∙ r.read in
-    let same = all_read bytes r.bytes left' read r.end in
-    let one : ◌≡◌ {A = Result Script (ℕ × Refusal)} (Ok x) (Ok r.scenario) = sym text ∙ ap reads same ∙ r.text in
-    let same_one : x ≡ r.scenario = cc in
-    let yes = built refl in
-    let no = ap is_built same_one ∙ r.holds.0 in
-    cc
-scenario_stands purpose.Check bytes x left left' Took is text built r = r.holds
-scenario_stands purpose.Plan bytes x left left' Took is text built r = r.holds
-
 -- a command that has all that it wants isn't refused
 pub not_refused : (asked : Purpose) (left left' : Option (List ℕ)) (Took : List ℕ → Type 0) → CanServe (command.Scenario asked) left
-    → RefusesText left left' Took ⊎ ReadsScenario (RefusesScenario asked Took) left left' → ⊥
-not_refused asked left left' Took can refused =
-    elim refused [
-      | inl text ↦ text_stands can.0 can.1 left left' Took can.2 can.3 text
-      | inr other ↦ scenario_stands asked can.0 can.1 left left' Took can.2 can.3 can.4 other
-    ]
+    → RefusesText left left' Took → ⊥
+not_refused asked left left' Took can refused = text_stands can.0 can.1 left left' Took can.2 can.3 refused
 
 -- of five statuses three don't come
 pub two_left : (status : ℕ) → (status ≡ 0) ⊎ ((status ≡ 3) ⊎ ((status ≡ 4) ⊎ ((status ≡ 5) ⊎ (status ≡ 6)))) → (status ≡ 3 → ⊥) → (status ≡ 4 → ⊥) → (status ≡ 5 → ⊥)

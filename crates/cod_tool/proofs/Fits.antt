@@ -1,11 +1,10 @@
--- What is known of a scenario that is built.
+-- What is known of a scenario that was read.
 use Rattle.std.proofs.Common.{◌≡◌, sym, subst, Ok, Err, take, zero, suc, ℕ, ◌+◌, ◌≤◌, Bool, true, false, cond, Option, Some, None, List, [], ◌∷◌, length, refl, ap, ◌∙◌, arith}
-use Rattle.std.specs.Prelude.{◌==◌, nat_lt, slice_index_or}
-use Rattle.std.specs.List.{cons_option, list_all, range_with_len, sum_by}
+use Rattle.std.specs.Prelude.{nat_lt, slice_index_or}
+use Rattle.std.specs.List.{cons_option, range_with_len, sum_by}
 use Rattle.std.proofs.lemmas.Bool.Decides.{nat_tests}
 use Rattle.cod_script.specs.declared.line.Line.{Line}
-use Rattle.cod_script.specs.Script.{Script, Ask, Client, ask_of, asks, lines_by, nobody}
-use Rattle.cod_script.specs.Owed.{owed}
+use Rattle.cod_script.specs.Script.{Script, Ask, Client, ask_of, asks, nobody}
 use Rattle.cod_script.specs.Sound.{IsScenario}
 use Rattle.cod_scenario.specs.Reads.{reads, script_or}
 use Rattle.cod_scenario.specs.Judge.{text_says, to_end, lines_say}
@@ -15,26 +14,7 @@ use Rattle.std.proofs.lemmas.List.Sums.{sum_by_more, sum_by-take-le}
 use Rattle.cod_tool.proofs.Sums.{sums_more}
 use Rattle.std.specs.Io.KnownBytes.{prepend_known, IsAtEnd}
 use Rattle.cod_tool.specs.Replays.{ReadsScenario}
-use Rattle.cod_tool.specs.Built.{IsFit, is_built, is_built_line, calls_of}
-use Rattle.cod_tool.proofs.Slips.{both, equal_if}
-
--- one segment of data columns alone, and one client
-pub record IsOne (x : Script) : Type 0 where
-  pub no_parity : x.shape.n ≡ x.shape.k
-  pub segment : length x.segments ≡ 1
-  pub client : length x.clients ≡ 1
-  pub lines : list_all is_built_line (lines_by x 0) ≡ true
-
-pub one_if : (x : Script) → is_built x ≡ true → IsOne x
-one_if x b =
-    let first = both (x.shape.n == x.shape.k) _ b in
-    let second = both (length x.segments == 1) _ first.1 in
-    let third = both (length x.clients == 1) _ second.1 in
-    record { no_parity = equal_if _ _ first.0; segment = equal_if _ _ second.0; client = equal_if _ _ third.0; lines = third.1 }
-
--- the calls of the one client
-pub calls_of_one : (x : Script) → length x.clients ≡ 1 → calls_of x ≡ length (owed x 0)
-calls_of_one x one = let z : 0 + length (owed x 0) ≡ length (owed x 0) = omega arith in ap (λ (n : ℕ). sum_by (λ who. length (owed x who)) (range_with_len 0 n)) one ∙ z
+use Rattle.cod_tool.specs.Fit.{IsFit, calls_of}
 
 -- ---- what every scenario has
 

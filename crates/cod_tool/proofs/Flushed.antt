@@ -9,7 +9,10 @@ use Rattle.cod_tool.specs.declared.command.Command.{Command}
 use Rattle.cod_tool.specs.declared.command.Command.TheVariants as command
 use Rattle.cod_tool.specs.declared.command.Purpose.{Purpose}
 use Rattle.cod_tool.specs.declared.command.Purpose.TheVariants as purpose
-use Rattle.cod_tool.specs.Replays.{Does, Ran, ReadsAtMost, Refuses, RefusesScenario, Serves, TakesAll, TakesLine}
+use Rattle.cod_advance.specs.Histories.{Moment}
+use Rattle.cod_gen.specs.Generated.{generated}
+use Rattle.cod_tool.specs.Ends.{run_summary, run_text}
+use Rattle.cod_tool.specs.Replays.{Does, Ran, ReadsAtMost, Refuses, Serves, TakesAll, TakesLine}
 
 -- ---- how a text is taken
 
@@ -17,11 +20,13 @@ use Rattle.cod_tool.specs.Replays.{Does, Ran, ReadsAtMost, Refuses, RefusesScena
 pub whole_is_front : (taken taken' : Option (List ℕ)) (text : List ℕ) → TakesAll taken taken' text → TakesFront taken taken' text
 whole_is_front taken taken' text all = (text, [], sym (append-nil text), all)
 
-ran_as : (on : AllRegions) (x : Script) (T U : List ℕ → Type 0) → ((text : List ℕ) → T text → U text) → Ran on x T → Ran on x U
-ran_as on x T U so r = record { chronicle = r.chronicle; history = r.history; stamps = r.stamps; early = r.early; printed = so _ r.printed }
+ran_as : (on : AllRegions) (x : Script) (text_of : Script → Moment → List ℕ) (T U : List ℕ → Type 0) → ((text : List ℕ) → T text → U text) → Ran on x text_of T
+    → Ran on x text_of U
+ran_as on x text_of T U so r = record { end = r.end; run = r.run; printed = so _ r.printed }
 
 serves_as : (on : AllRegions) (asked : Purpose) (x : Script) (T U : List ℕ → Type 0) → ((text : List ℕ) → T text → U text) → Serves on asked T x → Serves on asked U x
-serves_as on purpose.Replay x T U so s = (s.0, ran_as on x T U so s.1)
+serves_as on purpose.Replay x T U so s = ran_as on x run_text T U so s
+serves_as on purpose.Summary x T U so s = ran_as on x run_summary T U so s
 serves_as on purpose.Check x T U so s = so _ s
 serves_as on purpose.Plan x T U so s = so _ s
 
@@ -31,20 +36,15 @@ does_as on (command.Scenario asked) left left' T U so d =
     record { bytes = d.bytes; scenario = d.scenario; read = d.read; end = d.end; text = d.text; holds = serves_as on asked d.scenario T U so d.holds }
 does_as on (command.Code n k) left left' T U so d = (d.0, so _ d.1)
 does_as on (command.Gen number) left left' T U so d = (d.0, so _ d.1)
-
-refuses_scenario_as : (asked : Purpose) (x : Script) (T U : List ℕ → Type 0) → ((text : List ℕ) → T text → U text) → RefusesScenario asked T x → RefusesScenario asked U x
-refuses_scenario_as purpose.Replay x T U so r = (r.0, so _ r.1)
-refuses_scenario_as purpose.Check x T U so r = r
-refuses_scenario_as purpose.Plan x T U so r = r
+does_as on (command.Load number) left left' T U so d = (d.0, ran_as on (generated number) run_summary T U so d.1)
 
 -- what a command refuses, its line taken in another way
 pub refuses_as : (c : Command) (left left' : Option (List ℕ)) (T U : List ℕ → Type 0) → ((text : List ℕ) → T text → U text) → Refuses c left left' T → Refuses c left left' U
-refuses_as (command.Scenario asked) left left' T U so (inl r) =
-    inl (record { bytes = r.bytes; read = r.read; most = r.most; end = r.end; line = r.line; why = r.why; refused = r.refused; printed = so _ r.printed })
-refuses_as (command.Scenario asked) left left' T U so (inr d) =
-    inr (record { bytes = d.bytes; scenario = d.scenario; read = d.read; end = d.end; text = d.text; holds = refuses_scenario_as asked d.scenario T U so d.holds })
+refuses_as (command.Scenario asked) left left' T U so r =
+    record { bytes = r.bytes; read = r.read; most = r.most; end = r.end; line = r.line; why = r.why; refused = r.refused; printed = so _ r.printed }
 refuses_as (command.Code n k) left left' T U so r = r
 refuses_as (command.Gen number) left left' T U so r = r
+refuses_as (command.Load number) left left' T U so r = r
 
 -- a front that was taken, where nothing more was
 pub front_later : (taken middle taken' : Option (List ℕ)) (text : List ℕ) → taken' ≡ middle → TakesFront taken middle text → TakesFront taken taken' text

@@ -1,8 +1,9 @@
 -- Texts one behind another.
-use Rattle.std.proofs.Common.{◌≡◌, ℕ, zero, suc, ◌+◌, ◌-◌, ◌<◌, ◌≤◌, List, [], ◌∷◌, ◌++◌, ap, ◌∙◌, arith}
+use Rattle.std.proofs.Common.{◌≡◌, ℕ, zero, suc, ◌+◌, ◌-◌, ◌<◌, ◌≤◌, List, [], ◌∷◌, ◌++◌, length, take, get_or, sym, ap, ◌∙◌, arith}
 use Rattle.std.specs.List.{flat_map, range_with_len}
-use Rattle.std.proofs.lemmas.List.{append-nil}
+use Rattle.std.proofs.lemmas.List.{append-nil, take_more}
 use Rattle.std.proofs.lemmas.List.Concat.{flat_map-append}
+use Rattle.cod_print.proofs.Fronts.{text_more}
 
 pub range_split : (a i m : ℕ) → range_with_len a (i + m) ≡ range_with_len a i ++ range_with_len (a + i) m
 range_split a zero m =
@@ -47,3 +48,8 @@ texts_more_from f a i from =
     ap (λ (k : ℕ). flat_map f (range_with_len a k)) e
     ∙ ap (flat_map f) (range_split a (i - a) 1 ∙ ap (λ (k : ℕ). range_with_len a (i - a) ++ k ∷ []) z)
     ∙ flat_map-append f (range_with_len a (i - a)) (i ∷ []) ∙ ap (λ (l : List ℕ). flat_map f (range_with_len a (i - a)) ++ l) (append-nil (f i))
+
+-- the texts of the first values, and one value more
+pub slices_more : {X : Type 0} (f : X → List ℕ) (xs : List X) (i : ℕ) (x : X) → i < length xs → x ≡ get_or xs i x
+    → flat_map f (take (i + 1) xs) ≡ flat_map f (take i xs) ++ f x
+slices_more f xs i x lt is = ap (flat_map f) (take_more xs i x lt) ∙ text_more f (take i xs) (get_or xs i x) ∙ ap (λ (y : _). flat_map f (take i xs) ++ f y) (sym is)

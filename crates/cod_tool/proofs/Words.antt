@@ -7,7 +7,7 @@ use Rattle.cod_words.specs.Words.{number_of}
 use Rattle.cod_tool.specs.declared.command.Command.{Command}
 use Rattle.cod_tool.specs.declared.command.Command.TheVariants as command
 use Rattle.cod_tool.specs.declared.command.Purpose.TheVariants as purpose
-use Rattle.cod_tool.specs.Commands.{IsCode, code_of, command_of, gen_of}
+use Rattle.cod_tool.specs.Commands.{IsCode, code_of, command_of, gen_of, load_of}
 
 pub no_columns : (a b : Option ℕ) → a ≡ None → None ≡ code_of a b
 no_columns None None e = refl
@@ -56,26 +56,30 @@ code_of_limits (Some n) None m j e = cc
 code_of_limits None None m j e = cc
 code_of_limits None (Some k) m j e = cc
 
-alone_cond : (o p q : Bool) (m j : ℕ) → cond o (Some (command.Scenario purpose.Replay)) (cond p (Some (command.Scenario purpose.Check)) (cond q (Some (command.Scenario purpose.Plan)) None))
+alone_cond : (o s p q : Bool) (m j : ℕ)
+    → cond o (Some (command.Scenario purpose.Replay)) (cond s (Some (command.Scenario purpose.Summary)) (cond p (Some (command.Scenario purpose.Check)) (cond q (Some (command.Scenario purpose.Plan)) None)))
     ≡ Some (command.Code m j) → IsCode m j
-alone_cond true p q m j e = cc
-alone_cond false true q m j e = cc
-alone_cond false false true m j e = cc
-alone_cond false false false m j e = cc
+alone_cond true s p q m j e = cc
+alone_cond false true p q m j e = cc
+alone_cond false false true q m j e = cc
+alone_cond false false false true m j e = cc
+alone_cond false false false false m j e = cc
 
 named_cond : (o : Bool) (a b : Option ℕ) (m j : ℕ) → cond o (code_of a b) None ≡ Some (command.Code m j) → IsCode m j
 named_cond true a b m j e = code_of_limits a b m j e
 named_cond false a b m j e = cc
 
-gen_cond : (o : Bool) (a : Option ℕ) (m j : ℕ) → cond o (gen_of a) None ≡ Some (command.Code m j) → IsCode m j
-gen_cond true (Some number) m j e = cc
-gen_cond true None m j e = cc
-gen_cond false a m j e = cc
+with_cond : (o p : Bool) (a : Option ℕ) (m j : ℕ) → cond o (gen_of a) (cond p (load_of a) None) ≡ Some (command.Code m j) → IsCode m j
+with_cond true p (Some number) m j e = cc
+with_cond true p None m j e = cc
+with_cond false true (Some number) m j e = cc
+with_cond false true None m j e = cc
+with_cond false false a m j e = cc
 
 pub limits_of : (words : List (List ℕ)) (m j : ℕ) → command_of words ≡ Some (command.Code m j) → IsCode m j
 limits_of [] m j e = cc
-limits_of (word ∷ []) m j e = alone_cond (bytes_eq word (codes "replay")) (bytes_eq word (codes "check")) (bytes_eq word (codes "plan")) m j e
-limits_of (word ∷ number ∷ []) m j e = gen_cond (bytes_eq word (codes "gen")) (number_of number) m j e
+limits_of (word ∷ []) m j e = alone_cond (bytes_eq word (codes "replay")) (bytes_eq word (codes "summary")) (bytes_eq word (codes "check")) (bytes_eq word (codes "plan")) m j e
+limits_of (word ∷ number ∷ []) m j e = with_cond (bytes_eq word (codes "gen")) (bytes_eq word (codes "load")) (number_of number) m j e
 limits_of (word ∷ n ∷ k ∷ []) m j e = named_cond (bytes_eq word (codes "code")) (number_of n) (number_of k) m j e
 limits_of (word ∷ n ∷ k ∷ w ∷ ws) m j e = cc
 

@@ -1,14 +1,7 @@
-pub mod Blocks
-pub mod Serving
-pub mod Standing
-pub mod Counts
-pub mod Begun
-pub mod HasRun
 pub mod Coefficients
 pub mod Commands
-pub mod Built
+pub mod Fit
 pub mod Refused
 pub mod Planned
+pub mod Ends
 pub mod Replays
-pub mod Lines
-pub mod Ready

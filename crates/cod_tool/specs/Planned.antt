@@ -5,7 +5,7 @@ use Rattle.cod_types.specs.Columns.{home_of}
 use Rattle.cod_script.specs.Room.{taken_on}
 use Rattle.cod_script.specs.Script.{Script}
 use Rattle.cod_text.specs.Printed.{line_of, node_text, segment_word}
-use Rattle.cod_tool.specs.Built.{calls_of}
+use Rattle.cod_tool.specs.Fit.{calls_of}
 
 -- `ok`, with the numbers of segments, clients and segment calls
 abbrev pub check_text : Script → List ℕ

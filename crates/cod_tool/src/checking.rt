@@ -3,7 +3,7 @@ ghost use Rattle.std.specs.Prelude.{◌≡◌, ◌≤◌, ◌<◌, ◌^◌, [], 
 ghost use Rattle.cod_types.specs.Faults.{HasCause};
 ghost use Rattle.cod_script.specs.Script.{asks};
 ghost use Rattle.cod_print.specs.Puts.{Puts};
-ghost use Rattle.cod_tool.specs.Built.{calls_of};
+ghost use Rattle.cod_tool.specs.Fit.{calls_of};
 ghost use Rattle.cod_tool.specs.Planned.{check_text};
 
 use crate::pieces::{Count, counts};

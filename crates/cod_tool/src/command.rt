@@ -2,7 +2,7 @@
 ghost use Rattle.std.specs.Prelude.{◌≡◌, ℕ, map, string_bytes, Some};
 ghost use Rattle.cod_words.specs.Words.{number_of};
 ghost use Rattle.cod_tool.specs.declared.command.Command.TheVariants.{Code};
-ghost use Rattle.cod_tool.specs.Commands.{IsCode, code_of, command_alone, command_of, gen_of};
+ghost use Rattle.cod_tool.specs.Commands.{IsCode, code_of, command_alone, command_of, command_with, gen_of, load_of};
 
 use cod_words::word_number;
 
@@ -11,6 +11,8 @@ use cod_words::word_number;
 pub enum Purpose {
     /// Replay it, and print what happened.
     Replay,
+    /// Replay it, and print how much happened.
+    Summary,
     /// Print how many segments, clients and calls it has.
     Check,
     /// Print where its columns stand at first, and what they take on each node.
@@ -26,6 +28,8 @@ pub enum Command {
     Code { n: u8, k: u8 },
     /// Print the scenario that a number gives.
     Gen(u32),
+    /// Replay the scenario that a number gives, and print how much happened.
+    Load(u32),
 }
 
 /// The command of one word.
@@ -34,6 +38,8 @@ fn alone(word: &str) -> Option<Command>
 {
     if word == "replay" {
         Some(Command::Scenario(Purpose::Replay))
+    } else if word == "summary" {
+        Some(Command::Scenario(Purpose::Summary))
     } else if word == "check" {
         Some(Command::Scenario(Purpose::Check))
     } else if word == "plan" {
@@ -66,6 +72,26 @@ fn generated(number: &[u8]) -> Option<Command>
     Some(Command::Gen(word_number(number)?))
 }
 
+/// The replay of the scenario with this number, where the word is one.
+fn loaded(number: &[u8]) -> Option<Command>
+    ensures { result ≡ load_of (number_of number.now) }
+{
+    Some(Command::Load(word_number(number)?))
+}
+
+/// The command of a word and a number.
+fn numbered(word: &str, number: &[u8]) -> Option<Command>
+    ensures { result ≡ command_with word.now number.now }
+{
+    if word == "gen" {
+        generated(number)
+    } else if word == "load" {
+        loaded(number)
+    } else {
+        None
+    }
+}
+
 impl Command {
     /// The command that these words are, those after the program's name, if they are one.
     #[tactic(auto, using(crate::proofs::Words::code_limits))]
@@ -75,7 +101,7 @@ impl Command {
     {
         match words {
             [word] => alone(word.as_str()),
-            [word, number] if word.as_str() == "gen" => generated(number.as_bytes()),
+            [word, number] => numbered(word.as_str(), number.as_bytes()),
             [word, n, k] if word.as_str() == "code" => code(n.as_bytes(), k.as_bytes()),
             _ => None,
         }

@@ -6,7 +6,7 @@ pub const DONE: u8 = 0;
 /// The words are no command.
 pub const BAD_WORDS: u8 = 2;
 
-/// The source has no text of a scenario, or one that isn't built so far was to be replayed.
+/// The source has no text of a scenario.
 pub const REFUSED: u8 = 3;
 
 /// The source failed.

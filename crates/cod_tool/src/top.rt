@@ -33,11 +33,10 @@ fn finish<W: Sink>(sink: &mut W, status: u8) -> u8
 /// Does all that the program does, over regions of this shelf: `words` are those after its name. It always returns.
 ///
 /// The status is 0 where the command of the words was done and its text was taken whole and has come to where it goes; 2 exactly
-/// where the words are no command; 3 where the bytes of the source are not the text of a scenario, or too many, or where one that
-/// isn't built so far is to be replayed; 4 only where the source failed; 5 only where the sink failed, which took a front of the
-/// text; 6 for want of memory, before the first call of a replay is made and before anything is printed. `code` ends with 0 or
-/// 5, `gen` with 0, 5 or 6. At most 2^24 + 1 bytes are read. The source is as it was after `code` and `gen`, and where the words
-/// are no command.
+/// where the words are no command; 3 where the bytes of the source are not the text of a scenario, or too many; 4 only where the
+/// source failed; 5 only where the sink failed, which took a front of the text; 6 for want of memory, before the first call of a
+/// replay is made and before anything is printed. `code` ends with 0 or 5, `gen` and `load` with 0, 5 or 6. At most 2^24 + 1 bytes
+/// are read. The source is as it was after `code`, `gen` and `load`, and where the words are no command.
 pub fn tool<S: Source, W: Sink, H: Shelf + Drop>(
     alloc: Global,
     words: &[String],
@@ -74,6 +73,6 @@ pub fn tool<S: Source, W: Sink, H: Shelf + Drop>(
     ensures statuses { (result ≡ DONE) ⊎ ((result ≡ BAD_WORDS)
         ⊎ ((result ≡ REFUSED) ⊎ ((result ≡ SOURCE_FAILED) ⊎ ((result ≡ SINK_FAILED) ⊎ (result ≡ NO_MEMORY))))) }
 {
-    let status = perform(alloc, words, source, sink, &shelf);
+    let status = perform(alloc, words, source, sink, shelf);
     finish(sink, status)
 }

@@ -11,6 +11,9 @@ const FIRST: &str =
 const FIRST_PRINTED: &str =
     "1 s a 0 put 0102030405060708 -> done\n2 s a 1 write 2 aabb -> done\n3 s a 2 read 0 8 -> bytes 0102aabb05060708\nlayout s 0 0 up len 4 reads 2 writes 2\nlayout s 1 1 up len 4 reads 1 writes 1\nnode 0 up taken 4 free 96\nnode 1 up taken 4 free 96\n";
 
+const PARITY: &str =
+    "codfs 1\nnodes 5 1000\ncode 4 2\nblock 1\nupdate 1\nreserve 40\nunit 1\nalpha 5000\nsegment s\nclient a\nput s 0102\nwrite s 0 05\nread s 0 2\nend\n";
+
 /// The most calls of the sink that a command of these tests makes, and one more.
 const CALLS: u64 = 121;
 
@@ -110,5 +113,33 @@ fn streams_of_std_and_regions(rt: HostRuntime) -> Result<(), Fail> {
         )?;
         assert!(rt; sink.bytes() == want.as_bytes());
     }
+    Ok(())
+}
+
+/// Whether a replay of the scenario with parity columns, in which the region on node 0 fails at this call, ends well with a text
+/// that begins so.
+fn with_device_fault(alloc: Global, call: u64, want: &str) -> Result<bool, Fail> {
+    let words = [String::from_str(alloc, "replay")?];
+    let mut source = MemSource::new(alloc, PARITY.as_bytes(), 4096, &[])?;
+    let mut sink = MemSink::new(alloc, 1000, &[])?;
+    let shelf = FaultyShelf::new(alloc, &[(NodeId(0), call)])?;
+    let status = tool(alloc, &words, &mut source, &mut sink, shelf);
+    Ok(status == 0 && sink.bytes().starts_with(want.as_bytes()))
+}
+
+/// Whichever call of a device fails, each call is answered as if none had: the column is marked, and its bytes come from the others.
+#[test]
+fn devices_that_fail(rt: HostRuntime) -> Result<(), Fail> {
+    let alloc = rt.alloc();
+    let put = "1 s = down 0 0 fault 1\n2 s a 0 put 0102 -> done\n3 s a 1 write 0 05 -> done\n4 s a 2 read 0 2 -> bytes 0502\nlayout s 0 0 down len 1 reads 0 writes 1\n";
+    assert!(rt; with_device_fault(alloc, 0, put)?);
+    let begin = "1 s a 0 put 0102 -> done\n2 s = down 0 0 fault 1\n3 s a 1 write 0 05 -> done\n4 s a 2 read 0 2 -> bytes 0502\nlayout s 0 0 down len 1 reads 1 writes 1\nlayout s 1 1 up len 1 reads 3 writes 1\nlayout s 2 2 up len 41 used 20 avg 10000 reads 2 writes 2\nlayout s 3 3 up len 41 used 20 avg 10000 reads 0 writes 2\nnode 0 up taken 1 free 999\n";
+    assert!(rt; with_device_fault(alloc, 1, begin)?);
+    let step = "1 s a 0 put 0102 -> done\n2 s = down 0 0 fault 1\n3 s a 1 write 0 05 -> done\n4 s a 2 read 0 2 -> bytes 0502\nlayout s 0 0 down len 1 reads 1 writes 2\n";
+    assert!(rt; with_device_fault(alloc, 2, step)?);
+    let read = "1 s a 0 put 0102 -> done\n2 s a 1 write 0 05 -> done\n3 s = down 0 0 fault 1\n4 s a 2 read 0 2 -> bytes 0502\nlayout s 0 0 down len 1 reads 2 writes 2\n";
+    assert!(rt; with_device_fault(alloc, 3, read)?);
+    let none = "1 s a 0 put 0102 -> done\n2 s a 1 write 0 05 -> done\n3 s a 2 read 0 2 -> bytes 0502\nlayout s 0 0 up len 1 reads 2 writes 2\n";
+    assert!(rt; with_device_fault(alloc, 4, none)?);
     Ok(())
 }

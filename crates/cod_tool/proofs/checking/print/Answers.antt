@@ -1,6 +1,6 @@
 use Rattle.std.proofs.Common.{decimal, length, sym}
 use Rattle.cod_print.proofs.Fronts.{puts_same}
-use Rattle.cod_tool.specs.Built.{calls_of}
+use Rattle.cod_tool.specs.Fit.{calls_of}
 use Rattle.cod_tool.proofs.Plans.{check_parts}
 use Rattle.cod_tool.proofs.checking.print.Goals as goal
 
