@@ -18,7 +18,7 @@ use crate::stripe::Stripe;
 use cod_board::Board;
 use cod_claims::Slip;
 use cod_place::Pools;
-use cod_predict::{Rule};
+use cod_predict::Rule;
 use cod_region::{Region, Shelf};
 use cod_segment::Outcome;
 
@@ -116,7 +116,15 @@ impl<R: Region> Stripe<R> {
         ensures pools { (P.nodes around.new.pools.now ≡ P.nodes around.old.pools.now) × P.ready around.new.pools.now × P.same around.old.pools.now around.new.pools.now }
     {
         let asker = around.asker();
-        cod_update::parity_step(&mut self.segment, slip, asker, block, col, around.bench, around.clock)
+        cod_update::parity_step(
+            &mut self.segment,
+            slip,
+            asker,
+            block,
+            col,
+            around.bench,
+            around.clock,
+        )
     }
 
     /// Makes an update a part of the segment, and answers.
@@ -147,6 +155,13 @@ impl<R: Region> Stripe<R> {
         ensures pools { (P.nodes around.new.pools.now ≡ P.nodes around.old.pools.now) × P.ready around.new.pools.now × P.same around.old.pools.now around.new.pools.now }
     {
         let asker = around.asker();
-        cod_update::commit(&mut self.segment, slip, asker, around.pools, around.bench, around.clock)
+        cod_update::commit(
+            &mut self.segment,
+            slip,
+            asker,
+            around.pools,
+            around.bench,
+            around.clock,
+        )
     }
 }

@@ -131,15 +131,20 @@ fn with_device_fault(alloc: Global, call: u64, want: &str) -> Result<bool, Fail>
 #[test]
 fn devices_that_fail(rt: HostRuntime) -> Result<(), Fail> {
     let alloc = rt.alloc();
-    let put = "1 s = down 0 0 fault 1\n2 s a 0 put 0102 -> done\n3 s a 1 write 0 05 -> done\n4 s a 2 read 0 2 -> bytes 0502\nlayout s 0 0 down len 1 reads 0 writes 1\n";
+    let put =
+        "1 s = down 0 0 fault 1\n2 s a 0 put 0102 -> done\n3 s a 1 write 0 05 -> done\n4 s a 2 read 0 2 -> bytes 0502\nlayout s 0 0 down len 1 reads 0 writes 1\n";
     assert!(rt; with_device_fault(alloc, 0, put)?);
-    let begin = "1 s a 0 put 0102 -> done\n2 s = down 0 0 fault 1\n3 s a 1 write 0 05 -> done\n4 s a 2 read 0 2 -> bytes 0502\nlayout s 0 0 down len 1 reads 1 writes 1\nlayout s 1 1 up len 1 reads 3 writes 1\nlayout s 2 2 up len 41 used 20 avg 10000 reads 2 writes 2\nlayout s 3 3 up len 41 used 20 avg 10000 reads 0 writes 2\nnode 0 up taken 1 free 999\n";
+    let begin =
+        "1 s a 0 put 0102 -> done\n2 s = down 0 0 fault 1\n3 s a 1 write 0 05 -> done\n4 s a 2 read 0 2 -> bytes 0502\nlayout s 0 0 down len 1 reads 1 writes 1\nlayout s 1 1 up len 1 reads 3 writes 1\nlayout s 2 2 up len 41 used 20 avg 10000 reads 2 writes 2\nlayout s 3 3 up len 41 used 20 avg 10000 reads 0 writes 2\nnode 0 up taken 1 free 999\n";
     assert!(rt; with_device_fault(alloc, 1, begin)?);
-    let step = "1 s a 0 put 0102 -> done\n2 s = down 0 0 fault 1\n3 s a 1 write 0 05 -> done\n4 s a 2 read 0 2 -> bytes 0502\nlayout s 0 0 down len 1 reads 1 writes 2\n";
+    let step =
+        "1 s a 0 put 0102 -> done\n2 s = down 0 0 fault 1\n3 s a 1 write 0 05 -> done\n4 s a 2 read 0 2 -> bytes 0502\nlayout s 0 0 down len 1 reads 1 writes 2\n";
     assert!(rt; with_device_fault(alloc, 2, step)?);
-    let read = "1 s a 0 put 0102 -> done\n2 s a 1 write 0 05 -> done\n3 s = down 0 0 fault 1\n4 s a 2 read 0 2 -> bytes 0502\nlayout s 0 0 down len 1 reads 2 writes 2\n";
+    let read =
+        "1 s a 0 put 0102 -> done\n2 s a 1 write 0 05 -> done\n3 s = down 0 0 fault 1\n4 s a 2 read 0 2 -> bytes 0502\nlayout s 0 0 down len 1 reads 2 writes 2\n";
     assert!(rt; with_device_fault(alloc, 3, read)?);
-    let none = "1 s a 0 put 0102 -> done\n2 s a 1 write 0 05 -> done\n3 s a 2 read 0 2 -> bytes 0502\nlayout s 0 0 up len 1 reads 2 writes 2\n";
+    let none =
+        "1 s a 0 put 0102 -> done\n2 s a 1 write 0 05 -> done\n3 s a 2 read 0 2 -> bytes 0502\nlayout s 0 0 up len 1 reads 2 writes 2\n";
     assert!(rt; with_device_fault(alloc, 4, none)?);
     Ok(())
 }
