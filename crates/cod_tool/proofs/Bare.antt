@@ -15,8 +15,8 @@ use Rattle.cod_seg.specs.Seg.{Seg}
 use Rattle.cod_text.specs.Printed.{caller_word, call_words, chronicle_text, line_of, line_text, node_text, reply_words, segment_word, what_words}
 use Rattle.cod_advance.specs.Worlds.{AreSegmentsOf, no_seg, seg_at}
 use Rattle.cod_replay.specs.Standing.{IsBareOf}
-use Rattle.cod_replay.specs.State.{all_rooms, course_of, State}
-use Rattle.cod_tool.specs.Ends.{columns_text, column_text, end_of, IsNamed, node_line}
+use Rattle.cod_replay.specs.State.{all_rooms, course_of, moment_of, State}
+use Rattle.cod_tool.specs.Ends.{columns_text, column_text, IsNamed, node_line}
 
 -- ---- the chronicles
 
@@ -75,7 +75,7 @@ count_same s bare b are = are.count ∙ ap length (sym (names_same s.script bare
 -- ---- the nodes
 
 pub node_same : (s : State) (node : ℕ) (killed : Bool) (capacity free : ℕ) → killed ≡ is_some (kill_of s.kills node) → free + bytes_on node (all_rooms s.segs) ≡ s.script.capacity
-    → capacity ≡ s.script.capacity → node_text node (not killed) (capacity - free) free ≡ node_line s.script (end_of s) node
+    → capacity ≡ s.script.capacity → node_text node (not killed) (capacity - free) free ≡ node_line s.script (moment_of s) node
 unfolding node_line
 node_same s node killed capacity free k sums c =
     let taken : capacity - free ≡ bytes_on node (all_rooms s.segs) = omega (arith, sums, c) in

@@ -10,6 +10,7 @@ use Rattle.cod_place.specs.Rooms.{bytes_on}
 use Rattle.cod_script.specs.Script.{Script}
 use Rattle.cod_script.specs.Owed.{owed, IsHistory}
 use Rattle.cod_seg.specs.Seg.{Seg, col_at}
+use Rattle.cod_seg.specs.Sound.{is_frail}
 use Rattle.cod_segment.specs.Events.{kills_at}
 use Rattle.cod_repair.specs.Columns.{line_of as line_at}
 use Rattle.cod_text.specs.Printed.{chronicle_text, layout_text, node_text}
@@ -17,9 +18,10 @@ use Rattle.cod_text.specs.Summary.{summary_text}
 use Rattle.cod_text.specs.Unique.{EntryFits, Fits, HasChronicles, HasNames, WhyFits}
 use Rattle.cod_turns.specs.Turns.{Course, World}
 use Rattle.cod_turns.specs.Rounds.{IsRun}
-use Rattle.cod_advance.specs.Histories.{Moment}
+use Rattle.cod_advance.specs.Histories.{Leads, Moment}
 use Rattle.cod_advance.specs.Worlds.{AreSegmentsOf, world_of}
-use Rattle.cod_replay.specs.State.{all_rooms, course_over, fenced, places_of, State}
+use Rattle.cod_replay.specs.Standing.{AreFirst, AreIdle, beginning}
+use Rattle.cod_replay.specs.State.{all_rooms, course_over, fenced, moment_of, State}
 
 -- as turns see it
 abbrev pub world_at : Moment → World
@@ -36,13 +38,26 @@ taken_at e node = bytes_on node (all_rooms e.segs)
 abbrev pub course : AllRegions → Script → Course
 course on x = course_over x (fenced x.nodes on)
 
+-- Turns of some clients have led there from segments that were just built over the shelf, each turn as its event promises, with its device
+-- calls. The shelf may fail on these nodes of the scenario.
+pub record IsLedTo (on : AllRegions) (x : Script) (e : Moment) : Type 0 where
+  pub frail : List ℕ
+  pub may : (node : ℕ) → is_frail frail node ≡ (course on x).may node
+  pub first : List Seg
+  pub built : AreFirst x on.tell frail first
+  pub turns : List ℕ
+  pub leads : Leads (course on x) turns (beginning x first) e
+
 -- A run of the scenario over the shelf has come to this end. Its chronicles are one legal history of the scenario: `on` says what holds of
--- all regions. Its segments are sound, each at its site. On each node the rooms take no more than there is. The scenario's names and the
--- numbers of the chronicles are such that the printed text has one meaning (`read_one_way` of cod_text).
+-- all regions. Its segments are sound, each at its site, with nothing open, and the run has led them there from the start. On each node the
+-- rooms take no more than there is. The scenario's names and the numbers of the chronicles are such that the printed text has one meaning
+-- (`read_one_way` of cod_text).
 pub record IsEnd (on : AllRegions) (x : Script) (e : Moment) : Type 0 where
   pub run : IsRun (course on x) (world_at e)
+  pub led : IsLedTo on x e
   pub history : IsHistory on.tell x (λ node. not (on.never_fail (node_id node))) (owed x) (chronicles_of e)
   pub segments : AreSegmentsOf (course on x) e.segs
+  pub idle : AreIdle e.segs
   pub room : (node : ℕ) → node < x.nodes → taken_at e node ≤ x.capacity
   pub names : HasNames x
   pub chronicles : HasChronicles x (chronicles_of e)
@@ -82,11 +97,7 @@ run_text x e = chronicle_text x (chronicles_of e) ++ end_text x e
 abbrev pub run_summary : Script → Moment → List ℕ
 run_summary x e = summary_text (chronicles_of e)
 
--- the end of a replay
-abbrev pub end_of : State → Moment
-end_of s = record { segs = s.segs; kills = s.kills; places = places_of s.plays }
-
 -- a replay of the scenario over the shelf has come to its end
 pub record HasRun (on : AllRegions) (x : Script) (s : State) : Type 0 where
   pub script : s.script ≡ x
-  pub ended : IsEnd on x (end_of s)
+  pub ended : IsEnd on x (moment_of s)

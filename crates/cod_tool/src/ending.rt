@@ -4,7 +4,8 @@ ghost use Rattle.std.specs.List.{flat_map, range_with_len};
 ghost use Rattle.cod_types.specs.Faults.{HasCause};
 ghost use Rattle.cod_print.specs.Puts.{Puts};
 ghost use Rattle.cod_tool.specs.Ends;
-ghost use Rattle.cod_tool.specs.Ends.{end_of, end_text, run_text};
+ghost use Rattle.cod_tool.specs.Ends.{end_text, run_text};
+ghost use Rattle.cod_replay.specs.State.{moment_of};
 
 use crate::printing::layouts;
 use cod_io::Sink;
@@ -20,7 +21,7 @@ fn node_line<W: Sink, H: Shelf + Drop>(
     node: u8,
 ) -> Result<(), WriteFault>
     requires { node < replay.now.script.nodes }
-    ensures text { Puts result (W.taken sink.old) (W.taken sink.new) (Ends.node_line replay.now.script (end_of replay.now) node) }
+    ensures text { Puts result (W.taken sink.old) (W.taken sink.new) (Ends.node_line replay.now.script (moment_of replay.now) node) }
     ensures cause { HasCause (W.fault_count sink.old) (W.fault_count sink.new) result }
 {
     let node = NodeId(node);
@@ -33,7 +34,7 @@ fn node_line<W: Sink, H: Shelf + Drop>(
 /// The lines of the nodes.
 fn node_lines<W: Sink, H: Shelf + Drop>(sink: &mut W, replay: &Replay<H>) -> Result<(), WriteFault>
     ensures text { Puts result (W.taken sink.old) (W.taken sink.new)
-        (flat_map (Ends.node_line replay.now.script (end_of replay.now)) (range_with_len 0 replay.now.script.nodes)) }
+        (flat_map (Ends.node_line replay.now.script (moment_of replay.now)) (range_with_len 0 replay.now.script.nodes)) }
     ensures cause { HasCause (W.fault_count sink.old) (W.fault_count sink.new) result }
 {
     for node in 0..replay.scenario().nodes() {
@@ -44,7 +45,7 @@ fn node_lines<W: Sink, H: Shelf + Drop>(sink: &mut W, replay: &Replay<H>) -> Res
 
 /// The lines of the columns and of the nodes.
 fn ends<W: Sink, H: Shelf + Drop>(sink: &mut W, replay: &Replay<H>) -> Result<(), WriteFault>
-    ensures text { Puts result (W.taken sink.old) (W.taken sink.new) (end_text replay.now.script (end_of replay.now)) }
+    ensures text { Puts result (W.taken sink.old) (W.taken sink.new) (end_text replay.now.script (moment_of replay.now)) }
     ensures cause { HasCause (W.fault_count sink.old) (W.fault_count sink.new) result }
 {
     layouts(sink, replay.scenario(), replay.stripes())?;
@@ -54,7 +55,7 @@ fn ends<W: Sink, H: Shelf + Drop>(sink: &mut W, replay: &Replay<H>) -> Result<()
 /// Writes the whole text: the lines of the chronicles, of the columns and of the nodes. It fails only where the sink does, and has
 /// then written a front of it.
 pub fn print<W: Sink, H: Shelf + Drop>(sink: &mut W, replay: &Replay<H>) -> Result<(), WriteFault>
-    ensures text { Puts result (W.taken sink.old) (W.taken sink.new) (run_text replay.now.script (end_of replay.now)) }
+    ensures text { Puts result (W.taken sink.old) (W.taken sink.new) (run_text replay.now.script (moment_of replay.now)) }
     ensures cause { HasCause (W.fault_count sink.old) (W.fault_count sink.new) result }
 {
     cod_text::chronicle(sink, replay.scenario(), replay.stripes())?;
