@@ -3,8 +3,8 @@ use Rattle.std.proofs.Common.{◌≡◌, ◌≢◌, inl, inr, ℕ, zero, suc, �
 use Rattle.std.specs.Prelude.{IsPermutation, nat_eq, slice_index, sum}
 use Rattle.std.specs.List.{range_with_len, sum_by}
 use Rattle.std.proofs.Math.Seq.{get_or-append_seam}
-use Rattle.std.proofs.lemmas.Bool.{cases_eq, eq-eqb}
-use Rattle.std.proofs.lemmas.List.{ext_get_or, get_or-map, get_or-replicate, get_or_append_left, length-map, length-replicate}
+use Rattle.std.proofs.lemmas.Bool.{cases_eq, cases_lt, eq-eqb}
+use Rattle.std.proofs.lemmas.List.{ext_get_or, get_or-map, get_or-replicate, get_or_append_left, get_or_past, length-map, length-replicate}
 use Rattle.std.proofs.lemmas.List.Concat.{flat_map-append}
 use Rattle.std.proofs.lemmas.List.FromFn.{get_or-range_with_len, length-range_with_len}
 use Rattle.std.proofs.lemmas.List.Elements.{All-nil}
@@ -19,7 +19,7 @@ use Rattle.cod_place.specs.Room.{Room}
 use Rattle.cod_place.specs.Rooms.{AddUp, bytes_on, Store}
 use Rattle.cod_place.proofs.Rooms.{part}
 use Rattle.cod_script.specs.Room.{column_on, taken_by, taken_on}
-use Rattle.cod_script.specs.Script.{Client, clients_without, nobody, Script, without_lines}
+use Rattle.cod_script.specs.Script.{Client, clients_without, lines_by, nobody, Script, without_lines}
 use Rattle.cod_script.proofs.Emptied.{same_count}
 use Rattle.cod_script.specs.Sound.{IsScenario}
 use Rattle.cod_script.proofs.RoomSums.{taken_on_more, taken_on_none}
@@ -28,6 +28,7 @@ use Rattle.cod_segment.specs.Events.{rooms_of}
 use Rattle.cod_stripe.specs.Building.{HomesHaveRoom}
 use Rattle.cod_advance.specs.Worlds.{no_seg, seg_at}
 use Rattle.cod_replay.specs.Building.{AreBuilt, ArePlays, IsBareSoFar, IsBuilt, new_play}
+use Rattle.cod_replay.specs.Standing.{IsBareOf}
 use Rattle.cod_replay.specs.State.{all_rooms, nobody as nobody_plays, play_at}
 use Rattle.cod_replay.specs.Tasks.{Play}
 
@@ -175,15 +176,23 @@ same_name (x ∷ xs) zero (suc c) = refl
 same_name (x ∷ xs) (suc who) zero = refl
 same_name (x ∷ xs) (suc who) (suc c) = same_name xs who c
 
+no_lines : (cs : List Client) (who : ℕ) → (get_or (clients_without cs who) who nobody).lines ≡ []
+no_lines [] who = refl
+no_lines (x ∷ xs) zero = refl
+no_lines (x ∷ xs) (suc who) = no_lines xs who
+
 pub bare_none : (x : Script) → IsBareSoFar x x 0
-bare_none x = record { same = refl; size = refl; names = λ c. refl; left = λ c big. refl }
+bare_none x = record { same = refl; size = refl; names = λ c. refl; gone = λ c small. absurd (omega (arith, small)); left = λ c big. refl }
 
 pub bare_more : (whole now later : Script) (count : ℕ) → IsBareSoFar whole now count → later ≡ without_lines now count → IsBareSoFar whole later (count + 1)
 bare_more whole now later count bare is = subst (λ (x : Script). IsBareSoFar whole x (count + 1)) (sym is) (record {
-  same = ap (λ (x : Script). without_lines x count) bare.same
-      ∙ ap (λ (cs : List Client). let y : Script = record whole { clients = clients_without cs count } in y) refl;
+  same = ap (λ (x : Script). without_lines x count) bare.same;
   size = same_count now.clients count ∙ bare.size;
   names = λ c. same_name now.clients count c ∙ bare.names c;
+  gone = λ c small. elim (cases_eq c count) [
+    | inl same ↦ ap (λ (k : ℕ). lines_by (without_lines now count) k) same ∙ no_lines now.clients count
+    | inr diff ↦ ap (λ (x : Client). x.lines) (other_client now.clients count c diff) ∙ bare.gone c (omega (arith, small, diff))
+  ];
   left = λ c big. ap (λ (x : Client). x.lines) (other_client now.clients count c (λ e. omega (arith, big, e))) ∙ bare.left c (omega (arith, big));
 })
 
@@ -198,5 +207,17 @@ plays_more x count plays p are is = record {
         ∙ ap (new_play x) (sym same)
     | inr diff ↦ (let lower : i < count = omega (arith, small, diff) in let z = are.size in
         get_or_append_left plays (p ∷ []) nobody_plays i (omega (arith, lower, z)) ∙ are.each i lower)
+  ];
+}
+
+-- all lines were moved out
+pub bare_all : (whole now : Script) (count : ℕ) → IsBareSoFar whole now count → length whole.clients ≤ count → IsBareOf whole now
+bare_all whole now count bare all = record {
+  same = bare.same;
+  count = bare.size;
+  names = bare.names;
+  lines = λ c. elim (cases_lt c count) [
+    | inl done ↦ bare.gone c done
+    | inr past ↦ (let z = bare.size in ap (λ (x : Client). x.lines) (get_or_past now.clients c nobody (omega (arith, all, past, z))))
   ];
 }

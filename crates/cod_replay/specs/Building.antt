@@ -1,5 +1,5 @@
 -- How a replay is built.
-use Rattle.std.specs.Prelude.{◌≡◌, ℕ, ◌<◌, ◌≤◌, List, length, map, slice_index_or, None}
+use Rattle.std.specs.Prelude.{◌≡◌, [], ℕ, ◌<◌, ◌≤◌, List, length, map, slice_index_or, None}
 use Rattle.cod_region.specs.Device.{AllRegions}
 use Rattle.cod_chronicle.specs.Said.{site_as}
 use Rattle.cod_place.specs.Rooms.{AddUp, bytes_on, Store}
@@ -42,4 +42,5 @@ pub record IsBareSoFar (whole now : Script) (count : ℕ) : Type 0 where
   pub same : now ≡ record whole { clients = now.clients }
   pub size : length now.clients ≡ length whole.clients
   pub names : (c : ℕ) → (slice_index_or now.clients c nobody).name ≡ (slice_index_or whole.clients c nobody).name
+  pub gone : (c : ℕ) → c < count → lines_by now c ≡ []
   pub left : (c : ℕ) → count ≤ c → lines_by now c ≡ lines_by whole c

@@ -1,5 +1,5 @@
 -- What is true of a replay between its turns.
-use Rattle.std.specs.Prelude.{◌≡◌, ℕ, ◌<◌, ◌≤◌, List, length, replicate, slice_index_or, take, Bool, None}
+use Rattle.std.specs.Prelude.{◌≡◌, [], ℕ, ◌<◌, ◌≤◌, List, length, replicate, slice_index_or, take, Bool, None}
 use Rattle.cod_types.specs.Limits.{Shape}
 use Rattle.cod_chronicle.specs.Said.{site_as}
 use Rattle.cod_claims.specs.Claimed.{claim_at}
@@ -84,6 +84,7 @@ pub record IsBareOf (whole bare : Script) : Type 0 where
   pub same : bare ≡ record whole { clients = bare.clients }
   pub count : length bare.clients ≡ length whole.clients
   pub names : (c : ℕ) → (slice_index_or bare.clients c none).name ≡ (slice_index_or whole.clients c none).name
+  pub lines : (c : ℕ) → lines_by bare c ≡ []
 
 -- What is kept: the replay stands, its scenario has no lines any more, and its bench is for the geometry.
 pub record IsKept (s : State) (scenario : Script) (desk : Shape) : Type 0 where

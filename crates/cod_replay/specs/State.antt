@@ -65,7 +65,7 @@ most_of s = most_in (course_of s)
 abbrev pub all_rooms : List Seg → List Room
 all_rooms segs = flat_map rooms_of segs
 
--- what holds of the regions of a shelf on so many nodes; on others, which no run asks for, it is as if they never failed
+-- what holds of the regions of a shelf on so many nodes; as if on others, which a scenario does not have, they never failed
 abbrev pub fenced : (nodes : ℕ) → AllRegions → AllRegions
 fenced nodes regions = record { tell = regions.tell; never_fail = λ x. if nat_lt x.0 nodes then regions.never_fail x else true }
 

@@ -4,7 +4,7 @@ use Rattle.cod_script.specs.declared.line.Line.{Line}
 use Rattle.cod_replay.specs.Building.{ArePlays}
 use Rattle.cod_replay.specs.Tasks.{AreDated, Play, whole_task}
 use Rattle.cod_replay.specs.declared.task.Task.{Task}
-use Rattle.cod_replay.proofs.Making.{bare_more, bare_none, plays_more, plays_none}
+use Rattle.cod_replay.proofs.Making.{bare_all, bare_more, bare_none, plays_more, plays_none}
 use Rattle.cod_replay.proofs.building.players.Goals as goal
 
 abbrev play_of : ℕ → List Task → Play
@@ -44,4 +44,7 @@ returns-clause-players c =
     (let a = c.clients-test.false in let b = c.clients-count.ensures in let d = c.clients.auto.client-end in omega (arith, a, b, d)) c.clients.invariant.0
 
 pub returns-clause-rest : goal.returns-clause-rest
-returns-clause-rest c = record { same = c.clients.invariant.1.same; count = c.clients.invariant.1.size; names = c.clients.invariant.1.names }
+returns-clause-rest c =
+    let a = c.clients-test.false in
+    let b = c.clients-count.ensures in
+    bare_all c.args.scenario.now c.clients.scenario c.clients.client c.clients.invariant.1 (omega (arith, a, b))
