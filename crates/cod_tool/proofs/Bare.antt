@@ -1,9 +1,8 @@
 -- The texts of a scenario whose lines were moved out are those of the whole scenario.
-use Rattle.std.proofs.Common.{◌≡◌, ℕ, ◌+◌, ◌-◌, ◌<◌, Bool, true, false, not, List, [], ◌∷◌, ◌++◌, All, get_or, length, codes, decimal, refl, sym, ap, ◌∙◌, arith}
+use Rattle.std.proofs.Common.{◌≡◌, ℕ, ◌+◌, ◌-◌, Bool, not, List, [], ◌∷◌, ◌++◌, All, get_or, length, codes, decimal, refl, sym, ap, ◌∙◌, arith}
 use Rattle.std.specs.Prelude.{is_some, nat_lt, if◌then◌else◌, slice_index_or}
-use Rattle.std.specs.List.{flat_map, range_with_len}
+use Rattle.std.specs.List.{flat_map}
 use Rattle.std.proofs.lemmas.List.{get_or_default}
-use Rattle.cod_types.specs.Limits.{Shape}
 use Rattle.cod_chronicle.specs.Said.{Site, stamp_of}
 use Rattle.cod_chronicle.specs.declared.entry.Entry.{Entry}
 use Rattle.cod_chronicle.specs.declared.entry.Entry.TheVariants.{Call, Down, Up, Move}

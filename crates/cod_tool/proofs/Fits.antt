@@ -14,7 +14,7 @@ use Rattle.std.proofs.lemmas.List.Sums.{sum_by_more, sum_by-take-le}
 use Rattle.cod_tool.proofs.Sums.{sums_more}
 use Rattle.std.specs.Io.KnownBytes.{prepend_known, IsAtEnd}
 use Rattle.cod_tool.specs.Replays.{ReadsScenario}
-use Rattle.cod_tool.specs.Fit.{IsFit, calls_of}
+use Rattle.cod_tool.specs.Fit.{IsFit}
 
 -- ---- what every scenario has
 

@@ -1,6 +1,6 @@
 -- The end of a run.
-use Rattle.std.proofs.Common.{◌≡◌, ℕ, suc, ◌+◌, ◌<◌, ◌≤◌, Bool, true, false, cond, not, List, [], ◌∷◌, ◌++◌, All, Some, length, map, refl, sym, ap, ◌∙◌, subst, arith}
-use Rattle.std.specs.Prelude.{IsTrue, nat_lt, slice_get, slice_index}
+use Rattle.std.proofs.Common.{◌≡◌, ℕ, suc, ◌+◌, ◌<◌, ◌≤◌, Bool, true, false, cond, not, List, [], ◌∷◌, ◌++◌, All, Some, length, map, refl, ap, ◌∙◌, subst, arith}
+use Rattle.std.specs.Prelude.{IsTrue, nat_lt, slice_get}
 use Rattle.std.specs.List.{AllByRecursion}
 use Rattle.cod_types.specs.declared.call.Reply.{Reply}
 use Rattle.cod_types.specs.declared.call.Reply.TheVariants.{Bytes, Done, Range, Long, Lost, Whole, Rebuilt, NoSpare, NoMem, Differs, Shifted, Clear}
@@ -26,7 +26,7 @@ use Rattle.cod_turns.specs.Rounds.{IsRun, IsRunFrom}
 use Rattle.cod_turns.proofs.Rounding.{run_leaves_history}
 use Rattle.cod_advance.specs.Histories.{Leads, Moment}
 use Rattle.cod_advance.specs.Worlds.{AreSegmentsOf}
-use Rattle.cod_replay.specs.State.{all_rooms, course_of, fenced, moment_of, State, world_in}
+use Rattle.cod_replay.specs.State.{all_rooms, course_of, moment_of, State, world_in}
 use Rattle.cod_replay.specs.Standing.{AreFirst, AreIdle, beginning, IsLed, Stands}
 use Rattle.cod_tool.specs.Ends.{AllFit, chronicles_of, course, HasRun, IsLedTo}
 use Rattle.cod_tool.specs.Replays.{Ran}
