@@ -101,3 +101,30 @@ fn drains_that_fail(rt: HostRuntime) -> Result<(), Fail> {
     assert!(rt; prints(alloc, 8, lines, &[(NodeId(0), 1)], old)?);
     Ok(())
 }
+
+/// Whichever call of a parity column's region fails, that of the put, of the append or of the merge, its column goes down in that
+/// call, and each reply is that of regions that don't fail.
+#[test]
+fn a_fault_at_each_call_of_a_parity_column(rt: HostRuntime) -> Result<(), Fail> {
+    let alloc = rt.alloc();
+    let lines = "put s 0102\nwrite s 0 05\nmerge s\ntick s\nread s 0 2\n";
+    let put =
+        "1 s = down 2 2 fault 1\n2 s a 0 put 0102 -> done\n3 s a 1 write 0 05 -> done\n4 s a 2 merge -> done\n";
+    let append =
+        "1 s a 0 put 0102 -> done\n2 s = down 2 2 fault 1\n3 s a 1 write 0 05 -> done\n4 s a 2 merge -> done\n";
+    let merge =
+        "1 s a 0 put 0102 -> done\n2 s a 1 write 0 05 -> done\n3 s = down 2 2 fault 1\n4 s a 2 merge -> done\n";
+    let columns =
+        "5 s a 3 tick -> done\n6 s a 4 read 0 2 -> bytes 0502\nlayout s 0 0 up len 1 reads 2 writes 2\nlayout s 1 1 up len 1 reads 1 writes 1\nlayout s 2 2 down len 41 used";
+    let cases = [
+        (0u64, put, "0 avg 10000 reads 0 writes 1"),
+        (1, append, "0 avg 10000 reads 0 writes 2"),
+        (2, merge, "20 avg 10000 reads 1 writes 2"),
+        (3, merge, "20 avg 10000 reads 1 writes 3"),
+    ];
+    for (call, first, counts) in cases {
+        let want = format!(in alloc; "{first}{columns} {counts}\n")?;
+        assert!(rt; prints(alloc, 5, lines, &[(NodeId(2), call)], want.as_str())?);
+    }
+    Ok(())
+}
