@@ -5,13 +5,10 @@ use Rattle.cod_segment.specs.Events.{kills_at}
 use Rattle.cod_turns.specs.Turns.{Course, Turn, Turns, World}
 use Rattle.cod_turns.specs.declared.turned.Turned.{Turned}
 use Rattle.cod_turns.specs.declared.turned.Turned.TheVariants.{Ended, Killed}
-use Rattle.cod_advance.specs.Histories.{Leads, LeadsAreTurns, LeadsOn, Moment, Takes}
+use Rattle.cod_advance.specs.Histories.{Leads, LeadsAreTurns, Moment, Takes, world_at}
 use Rattle.cod_advance.specs.Served.{turned_by}
 use Rattle.cod_advance.specs.Worlds.{AreSegmentsOf, world_of}
 use Rattle.cod_advance.proofs.Worldly.{ending_is_turn, failing_is_turn, serving_is_turn, serving_keeps}
-
-abbrev world_at : Moment → World
-world_at a = world_of a.segs (kills_at a.kills) a.places
 
 -- one turn
 takes_turn : (x : Course) (who : ℕ) (a b : Moment) → AreSegmentsOf x a.segs → Takes x who a b → (turned : Turned) × Turn x who (world_at a) (world_at b) turned × AreSegmentsOf x b.segs
@@ -39,7 +36,3 @@ leads_are_turns x (who ∷ rest) a b are leads =
     let one = takes_turn x who a leads.0 are leads.1 in
     let more = leads_are_turns x rest leads.0 b one.2 leads.2 in
     ((world_at leads.0, one.0, one.1, more.0), more.1)
-
-pub leads_on : LeadsOn
-leads_on x [] who a b c leads takes = (c, subst (λ (m : Moment). Takes x who m c) leads takes, refl)
-leads_on x (first ∷ rest) who a b c leads takes = (leads.0, leads.1, leads_on x rest who leads.0 b c leads.2 takes)

@@ -10,9 +10,13 @@ use Rattle.std.proofs.lemmas.Option.{slice_get-get_or, slice_get-map}
 use Rattle.cod_chronicle.specs.declared.entry.Entry.{Entry}
 use Rattle.cod_chronicle.specs.Order.{place, placed_from}
 use Rattle.cod_chronicle.specs.Said.{Site}
+use Rattle.cod_types.specs.declared.call.Call.{Call as Asked}
+use Rattle.cod_types.specs.declared.call.Call.TheVariants as call
+use Rattle.cod_types.specs.declared.call.SegId.{SegId}
 use Rattle.cod_script.specs.declared.line.Line.{Line}
+use Rattle.cod_script.specs.declared.line.What.TheVariants.{Segment}
 use Rattle.cod_script.specs.Script.{Client, lines_by, nobody, Script}
-use Rattle.cod_script.specs.Sound.{IsLine, line_count}
+use Rattle.cod_script.specs.Sound.{IsDated, IsDatedCall, IsLine, IsScenario, line_count}
 use Rattle.cod_seg.specs.Seg.{Seg}
 use Rattle.cod_turns.specs.Turns.{Course, IsLineAt, start, Turn, Turns, World}
 use Rattle.cod_turns.specs.declared.turned.Turned.{Turned}
@@ -56,6 +60,28 @@ line_is_there x who i l scenario at =
     let some = ap length at.lines ∙ length-append at.front (l ∷ at.rest) in
     let is : get_or (lines_by x who) (length at.front) l ≡ l = ap (λ (ls : List Line). get_or ls (length at.front) l) at.lines ∙ get_or-append_seam at.front l at.rest l in
     subst (IsLine x.nodes (length x.segments)) is (c.1 (length at.front) l (omega (arith, some)))
+
+pub dated_call : (version : ℕ) (c : Asked) → IsDatedCall version c → c ≡ call.Upgrade → version ≡ 2
+dated_call version call.Upgrade dated e = dated
+dated_call version (call.Read off len) dated e = cc
+dated_call version (call.Write off bytes) dated e = cc
+dated_call version (call.Swap off old new) dated e = cc
+dated_call version (call.Put bytes) dated e = cc
+dated_call version call.Merge dated e = cc
+dated_call version call.Tick dated e = cc
+dated_call version call.Rebuild dated e = cc
+dated_call version (call.Drain node) dated e = cc
+
+-- an upgrade is asked for only where the version is 2
+pub line_is_dated : (x : Script) (who i line : ℕ) (seg : SegId) (asked : Asked) → IsScenario x → IsLineAt x who i (record { line = line; what = Segment seg asked })
+    → asked ≡ call.Upgrade → x.shape.version ≡ 2
+line_is_dated x who i line seg asked scenario at e =
+    let l : Line = record { line = line; what = Segment seg asked } in
+    let c = scenario.dated who nobody (line_of x who i l at).0 in
+    let some = ap length at.lines ∙ length-append at.front (l ∷ at.rest) in
+    let is : get_or (lines_by x who) (length at.front) l ≡ l = ap (λ (ls : List Line). get_or ls (length at.front) l) at.lines ∙ get_or-append_seam at.front l at.rest l in
+    let dated : IsDatedCall x.shape.version asked = subst (λ (k : Line). IsDated x.shape.version k.what) is (c (length at.front) l (omega (arith, some))) in
+    dated_call x.shape.version asked dated e
 
 pub number_is_small : NumberIsSmall
 number_is_small x who i l at scenario =

@@ -29,7 +29,7 @@ use Rattle.cod_turns.proofs.Running.{start_sound, turns}
 use Rattle.cod_advance.specs.Moments.{AreSlips, FailingKeepsSlips, FirstHasSlips, IsMoment, IsSlipFor, IsWholeSlip, ServingKeepsSlips, SlipIsAsked, SlipsGoOn}
 use Rattle.cod_advance.specs.Served.{IsServed, turned_by}
 use Rattle.cod_advance.specs.Worlds.{AreSegmentsOf, HasServed, no_seg, Places, seg_at, world_of}
-use Rattle.cod_advance.proofs.Lining.{line_is_there}
+use Rattle.cod_advance.proofs.Lining.{line_is_dated, line_is_there}
 use Rattle.cod_advance.proofs.Serving.{event_is_turn}
 use Rattle.cod_advance.proofs.Worldly.{elsewhere, happened, here, new_open, serving_keeps}
 
@@ -83,7 +83,7 @@ asked_state s who number call p slip opens = by (open_in s who) refl where
       inr (e ∙ ap (λ (n : ℕ). Some (n, q.1)) is.0 ∙ ap (λ (c : Asked). Some (number, c)) is.1, slip.begun q e)
 
 pub slip_is_asked : SlipIsAsked
-slip_is_asked x segs board places who line seg call p scenario m at dated slip =
+slip_is_asked x segs board places who line seg call p scenario m at slip =
     let there = (line_is_there x.script who (places.next who) (record { line = line; what = Segment seg call }) scenario at).1.0 in
     let count = m.are.count in
     let lt : seg.0 < length segs = omega (arith, there, count) in
@@ -98,7 +98,7 @@ slip_is_asked x segs board places who line seg call p scenario m at dated slip =
           let k = its_calls x segs board places m seg.0 who n q e in
           let theirs = take_front (lines_by x.script who) k.at.front k.at.rest (record { line = k.line; what = Segment k.seg q }) (places.next who) k.at.lines k.at.place in
           (k.number_is ∙ ap (λ (ls : List Line). length (asks ls)) (sym theirs ∙ front), one_call x.script who (places.next who) k.line line k.seg seg q call k.at at));
-      dated = λ e. ap (λ (q : Site). q.shape.version) (m.are.each seg.0 lt).site ∙ dated e;
+      dated = λ e. ap (λ (q : Site). q.shape.version) (m.are.each seg.0 lt).site ∙ line_is_dated x.script who (places.next who) line seg call scenario at e;
     }
 
 -- ---- at first

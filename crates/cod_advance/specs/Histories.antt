@@ -1,11 +1,12 @@
 -- A run in its segments: how each turn changed them, with its exact steps and device calls.
-use Rattle.std.specs.Prelude.{◌≡◌, ◌⊎◌, ℕ, ◌≤◌, List, [], ◌∷◌, ◌++◌, length, Option}
+use Rattle.std.specs.Prelude.{◌≡◌, ◌⊎◌, ℕ, ◌≤◌, List, [], ◌∷◌, length, Option}
 use Rattle.cod_board.specs.declared.kill.Kill.{Kill as Killed}
 use Rattle.cod_script.specs.Script.{lines_by}
 use Rattle.cod_seg.specs.Seg.{Seg}
 use Rattle.cod_segment.specs.declared.asking.Outcome.{Outcome}
 use Rattle.cod_segment.specs.Events.{kills_at}
-use Rattle.cod_turns.specs.Turns.{Course, Turns}
+use Rattle.cod_turns.specs.Rounds.{IsRunFrom, turns_of}
+use Rattle.cod_turns.specs.Turns.{Course, Turns, World}
 use Rattle.cod_advance.specs.Worlds.{AreSegmentsOf, HasFailed, HasServed, Places, world_of}
 
 -- the segments, the kills on the board, and how far the clients are
@@ -13,6 +14,10 @@ pub record Moment : Type 0 where
   pub segs : List Seg
   pub kills : List (Option Killed)
   pub places : Places
+
+-- as turns see it
+abbrev pub world_at : Moment → World
+world_at a = world_of a.segs (kills_at a.kills) a.places
 
 -- One turn of a client: an event of its call at one segment, as it is promised; or a node's failure; or nothing, where no line is left.
 abbrev pub Takes : Course → (who : ℕ) → Moment → Moment → Type 0
@@ -29,8 +34,9 @@ Leads x (who ∷ rest) a b = (m : Moment) × Takes x who a m × Leads x rest m b
 -- They are turns of a run, and leave the course's segments.
 abbrev pub LeadsAreTurns : Type 0
 LeadsAreTurns = (x : Course) (turns : List ℕ) (a b : Moment) → AreSegmentsOf x a.segs → Leads x turns a b
-    → Turns x turns (world_of a.segs (kills_at a.kills) a.places) (world_of b.segs (kills_at b.kills) b.places) × AreSegmentsOf x b.segs
+    → Turns x turns (world_at a) (world_at b) × AreSegmentsOf x b.segs
 
--- one more may follow
-abbrev pub LeadsOn : Type 0
-LeadsOn = (x : Course) (turns : List ℕ) (who : ℕ) (a b c : Moment) → Leads x turns a b → Takes x who b c → Leads x (turns ++ who ∷ []) a c
+-- A run led from the one moment to the other: the turns of the schedule, and of so many rounds, until each client has ended.
+pub record Runs (x : Course) (a b : Moment) : Type 0 where
+  pub run : IsRunFrom x (world_at a) (world_at b)
+  pub leads : Leads x (turns_of x.script run.count) a b

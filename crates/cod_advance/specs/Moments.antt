@@ -68,7 +68,7 @@ pub record AreSlips (x : Course) (segs : List Seg) (places : Places) (slips : �
 abbrev pub SlipIsAsked : Type 0
 SlipIsAsked = (x : Course) (segs : List Seg) (board : Board) (places : Places) (who line : ℕ) (seg : SegId) (call : Asked) (p : Paper)
     → IsScenario x.script → IsMoment x segs board places
-    → (at : IsLineAt x.script who (places.next who) (record { line = line; what = Segment seg call })) → (call ≡ Upgrade → x.script.shape.version ≡ 2)
+    → (at : IsLineAt x.script who (places.next who) (record { line = line; what = Segment seg call }))
     → IsSlipFor (seg_at segs seg.0) who call p → IsAsked (seg_at segs seg.0) who (length (asks at.front)) p call
 
 -- a slip that is whole for the call that the client has come to, if it is a segment's

@@ -7,7 +7,7 @@ mod served;
 mod work;
 mod worlds;
 
-pub use histories::{leads_are_turns, leads_on};
+pub use histories::leads_are_turns;
 pub use moments::{
     failing_keeps_slips, first_has_slips, first_is_moment, line_is_there, moment_has_room,
     number_is_small, serving_keeps_slips, slip_is_asked, turn_leads_on,

@@ -2,27 +2,15 @@
 use Rattle.std.proofs.Common.{◌≡◌, inl, inr, ℕ, List, [], length, get_or, ap, arith}
 use Rattle.std.proofs.lemmas.Bool.{cases_lt}
 use Rattle.std.proofs.lemmas.List.{get_or_past}
-use Rattle.cod_types.specs.declared.call.Call.{Call}
-use Rattle.cod_types.specs.declared.call.Call.TheVariants as call
 use Rattle.cod_types.specs.Limits.{Shape}
 use Rattle.cod_script.specs.declared.line.Line.{Line}
 use Rattle.cod_script.specs.declared.line.What.{What}
 use Rattle.cod_script.specs.declared.line.What.TheVariants as what
 use Rattle.cod_script.specs.Script.{Client, lines_by, nobody, Script}
-use Rattle.cod_script.specs.Sound.{IsDated as IsDatedWhat, IsDatedCall, IsScenario}
+use Rattle.cod_script.specs.Sound.{IsDated as IsDatedWhat, IsScenario}
+use Rattle.cod_advance.proofs.Lining.{dated_call}
 use Rattle.cod_replay.specs.Standing.{UpgradesAreDated}
 use Rattle.cod_replay.specs.Tasks.{IsDatedIn}
-
-dated_call : (version : ℕ) (c : Call) → IsDatedCall version c → c ≡ call.Upgrade → version ≡ 2
-dated_call version call.Upgrade dated e = dated
-dated_call version (call.Read off len) dated e = cc
-dated_call version (call.Write off bytes) dated e = cc
-dated_call version (call.Swap off old new) dated e = cc
-dated_call version (call.Put bytes) dated e = cc
-dated_call version call.Merge dated e = cc
-dated_call version call.Tick dated e = cc
-dated_call version call.Rebuild dated e = cc
-dated_call version (call.Drain node) dated e = cc
 
 dated_what : (g : Shape) (w : What) → IsDatedWhat g.version w → IsDatedIn g w
 dated_what g (what.Segment seg c) dated = dated_call g.version c dated

@@ -1,5 +1,5 @@
 -- Whether all clients have ended, and what runs leave.
-use Rattle.std.proofs.Common.{◌≡◌, inl, inr, ℕ, zero, suc, Bool, true, List, [], length, get_or, cond, Option, Some, None, refl, sym, ap, ◌∙◌, subst, arith}
+use Rattle.std.proofs.Common.{◌≡◌, inl, inr, ℕ, zero, suc, Bool, true, List, [], ◌∷◌, length, get_or, cond, Option, Some, None, refl, sym, ap, ◌∙◌, subst, arith}
 use Rattle.std.specs.List.{list_all}
 use Rattle.std.proofs.lemmas.Bool.{cases_lt, eq-eqb, leb-true, le-leb}
 use Rattle.std.proofs.lemmas.List.{get_or_default, get_or_past}
@@ -11,20 +11,26 @@ use Rattle.cod_claims.proofs.Opening.{opens_call}
 use Rattle.cod_seg.specs.Next.{open_in, open_of}
 use Rattle.cod_seg.specs.Seg.{Rebuilding, Seg}
 use Rattle.cod_seg.specs.Sound.{Sound}
+use Rattle.cod_advance.specs.Histories.{Leads, Takes}
 use Rattle.cod_advance.specs.Worlds.{seg_at}
 use Rattle.cod_script.specs.declared.line.Line.{Line}
 use Rattle.cod_script.specs.Script.{Client, lines_by, nobody as none}
 use Rattle.cod_turns.specs.Open.{AreItsCalls, NothingOpen}
-use Rattle.cod_turns.specs.Rounds.{IsRunFrom, Rounds}
+use Rattle.cod_turns.specs.Rounds.{IsRunFrom, Rounds, Takings}
 use Rattle.cod_turns.specs.Turns.{AllEnded, Course, World}
 use Rattle.cod_turns.proofs.Opening.{none_open, open_is_of_its_line}
 use Rattle.cod_replay.specs.Standing.{AreIdle, Stands}
-use Rattle.cod_replay.specs.State.{course_of, nobody, play_at, State, world_in}
+use Rattle.cod_replay.specs.State.{course_of, moment_of, nobody, play_at, State, world_in}
 use Rattle.cod_replay.specs.Tasks.{has_ended}
 
 -- what is open is the calls of lines
 pub are_calls : (s : State) → Stands s → AreItsCalls s.script (world_in s)
 are_calls s st = open_is_of_its_line (course_of s) st.moment.turns (world_in s) st.moment.led
+
+-- what turns make of a replay they make of its segments
+pub all_lead : (x : Course) (turns : List ℕ) (a b : State) → Takings (λ who s v. Takes x who (moment_of s) (moment_of v)) turns a b → Leads x turns (moment_of a) (moment_of b)
+all_lead x [] a b same = ap moment_of same
+all_lead x (who ∷ rest) a b took = (moment_of took.0, took.1, all_lead x rest took.0 b took.2)
 
 rounds_end : (x : Course) (n : ℕ) (w v : World) → Rounds x n w v → AllEnded x.script v
 rounds_end x zero w v r = subst (AllEnded x.script) (sym r.0) r.1

@@ -31,7 +31,7 @@ use Rattle.cod_advance.proofs.Lining.{first_is_moment}
 use Rattle.cod_advance.proofs.Slipping.{first_has_slips}
 use Rattle.cod_advance.proofs.Worldly.{start_is_start}
 use Rattle.cod_replay.specs.Building.{AreBuilt, ArePlays, IsBuilt, new_play}
-use Rattle.cod_replay.specs.Standing.{IsLed, IsPlay, Stands}
+use Rattle.cod_replay.specs.Standing.{IsFresh, IsPlay, Stands}
 use Rattle.cod_replay.specs.State.{all_rooms, course_of, course_over, fenced, nobody, places_of, play_at, slips_of, State, world_in}
 use Rattle.cod_replay.specs.Tasks.{Play, slip_in, task_at, task_of, whole_task}
 use Rattle.cod_replay.specs.declared.task.Task.TheVariants.{Done}
@@ -152,17 +152,15 @@ first_places x plays are =
       clock {c} (inl there) = ap (λ (p : Play). p.clock) (are.each c there)
       clock {c} (inr past) = ap (λ (p : Play). p.clock) (get_or_past plays c nobody (let z = are.size in omega (arith, past, z)))
 
-first_led : (x : Script) (regions : AllRegions) (kills : List (Option Killed)) (pools : Store) (segs : List Seg) (plays : List Play)
+pub first_is_fresh : (x : Script) (regions : AllRegions) (kills : List (Option Killed)) (pools : Store) (segs : List Seg) (plays : List Play)
     → AreBuilt x regions (length x.segments) segs pools → ArePlays x (length x.clients) plays → kills ≡ replicate x.nodes None
-    → IsLed (first_state x regions kills pools segs plays)
-first_led x regions kills pools segs plays built are up = record {
-  first = segs;
-  turns = [];
+    → IsFresh (first_state x regions kills pools segs plays)
+first_is_fresh x regions kills pools segs plays built are up = record {
   built = record {
     size = built.size;
-    each = λ i small. (let is = built.each i small in record { new = is.new; site = is.site; plain = is.plain; frail_is = is.frail });
+    each = λ i small. (let is = built.each i small in record { new = is.new; untouched = is.untouched; site = is.site; plain = is.plain; frail_is = is.frail });
   };
-  leads =
+  begins =
       ap (λ (ks : List (Option Killed)). let m : Moment = record { segs = segs; kills = ks; places = places_of plays } in m) up
       ∙ ap (λ (p : Places). let m : Moment = record { segs = segs; kills = replicate x.nodes None; places = p } in m) (first_places x plays are);
 }
@@ -177,7 +175,6 @@ first_stands x regions kills pools segs plays scenario built are up =
     record {
       scenario = scenario;
       moment = first_is_moment (course_of s) segs (kills_at kills) (places_of plays) first segments;
-      led = first_led x regions kills pools segs plays built are up;
       frail = λ i small. (built.each i (let z = built.size in omega (arith, small, z))).frail;
       slips = first_has_slips (course_of s) segs (kills_at kills) (places_of plays) (slips_of plays) scenario first segments (whole_first x plays are);
       count = are.size;

@@ -35,7 +35,6 @@ use Rattle.cod_advance.specs.Histories.{Takes}
 use Rattle.cod_advance.specs.Moments.{IsWholeSlip}
 use Rattle.cod_advance.specs.Served.{turned_by}
 use Rattle.cod_advance.specs.Worlds.{HasFailed, HasServed, OthersStayAt, seg_at, world_of}
-use Rattle.cod_advance.proofs.Leading.{leads_on}
 use Rattle.cod_advance.proofs.Lining.{line_is_there, moment_has_room, number_is_small, turn_leads_on}
 use Rattle.cod_advance.proofs.Serving.{event_is_turn}
 use Rattle.cod_advance.proofs.Slipping.{failing_keeps_slips, serving_keeps_slips, slip_is_asked}
@@ -47,7 +46,6 @@ use Rattle.cod_replay.specs.State.{all_rooms, course_of, moment_of, most_of, nob
 use Rattle.cod_replay.specs.Tasks.{due_of, gone_on, IsDated, Play, slip_in, task_of}
 use Rattle.cod_replay.specs.declared.task.Due.TheVariants as due
 use Rattle.cod_replay.specs.declared.task.Task.TheVariants.{Call, Done}
-use Rattle.cod_replay.proofs.Dating.{dated_of}
 use Rattle.cod_replay.proofs.Playing.{line_below, called, CalledAt, fails, FailsAt, ended, goes_on, next_whole, number_called, number_failed, number_here, stays, stays_same, stays_set}
 use Rattle.cod_replay.proofs.Rooming.{adds_up, came_back, came_first, rest_of}
 
@@ -121,12 +119,6 @@ module _ (s : State) (who line : ℕ) (node : NodeId) (st : Stands s) (there : w
         scenario = st.scenario;
         moment = turn_leads_on (course_of s) who turned.Killed s.segs (kills_at s.kills) (places_of s.plays) s.segs (kills_at v.kills) (places_of v.plays) st.moment
             fail_is_turn st.moment.are;
-        led = record {
-          first = st.led.first;
-          turns = st.led.turns ++ who ∷ [];
-          built = st.led.built;
-          leads = leads_on (course_of s) st.led.turns who (beginning s.script st.led.first) (moment_of s) (moment_of v) st.led.leads fail_takes;
-        };
         frail = st.frail;
         slips = failing_keeps_slips (course_of s) who s.segs (kills_at s.kills) s.kills v.kills (places_of s.plays) (places_of v.plays) (slips_of s.plays)
             (slips_of v.plays) st.scenario st.moment has_failed st.slips whole (other_slips s.plays who (gone_on p));
@@ -174,15 +166,6 @@ module _ (s : State) (who : ℕ) (seg : SegId) (st : Stands s) (there : who < le
       let b = st.moment.are.count in
       omega (arith, a, b)
 
-  dated_here : called_here.call ≡ Upgrade → s.script.shape.version ≡ 2
-  dated_here =
-      let at = called_here.at in
-      let l : Line = record { line = called_here.line; what = what.Segment seg called_here.call } in
-      let small = line_below s.script who (play_at s.plays who).next l at in
-      let same : get_or (lines_by s.script who) (play_at s.plays who).next l ≡ l =
-      ap (λ (ls : List Line). get_or ls (play_at s.plays who).next l) at.lines ∙ get_or_at at.front l at.rest l (play_at s.plays who).next at.place in
-      subst (IsDated s.script.shape) same (dated_of s.script st.scenario who (play_at s.plays who).next l small)
-
   asked_here : IsAsked (seg_at s.segs seg.0) who (play_at s.plays who).number (slip_in (task_of (play_at s.plays who))) called_here.call
   asked_here =
       let p = play_at s.plays who in
@@ -190,7 +173,7 @@ module _ (s : State) (who : ℕ) (seg : SegId) (st : Stands s) (there : who < le
       let for_it = st.slips.each who called_here.line seg called_here.call called_here.at in
       subst (λ (n : ℕ). IsAsked (seg_at s.segs seg.0) who n (slip_in (task_of p)) called_here.call) (sym (number_here s.script who p l called_here.at (st.each who there)))
       (slip_is_asked (course_of s) s.segs (kills_at s.kills) (places_of s.plays) who called_here.line seg called_here.call (slip_in (task_of p)) st.scenario st.moment
-      called_here.at dated_here for_it)
+      called_here.at for_it)
 
   call_here : call_in (slip_in (task_of (play_at s.plays who))) ≡ called_here.call
   call_here = asked_call (seg_at s.segs seg.0) who (play_at s.plays who).number (slip_in (task_of (play_at s.plays who))) called_here.call asked_here
@@ -347,12 +330,6 @@ module _ (s : State) (who : ℕ) (seg : SegId) (st : Stands s) (there : who < le
         moment = turn_leads_on (course_of s) who (turned_by o) s.segs (kills_at s.kills) (places_of s.plays) v.segs (kills_at s.kills) (places_of v.plays) st.moment
             served_turn
             (serving_keeps (course_of s) who (kills_at s.kills) o s.segs (places_of s.plays) v.segs (places_of v.plays) st.moment.are has_served);
-        led = record {
-          first = st.led.first;
-          turns = st.led.turns ++ who ∷ [];
-          built = st.led.built;
-          leads = leads_on (course_of s) st.led.turns who (beginning s.script st.led.first) (moment_of s) (moment_of v) st.led.leads served_takes;
-        };
         frail = served_frail;
         slips = serving_keeps_slips (course_of s) who (kills_at s.kills) o s.segs (places_of s.plays) v.segs (places_of v.plays) has_served (slips_of s.plays)
             (slips_of v.plays) st.scenario st.moment st.slips

@@ -7,14 +7,15 @@ use Rattle.cod_script.specs.Room.{taken_on}
 use Rattle.cod_script.specs.Script.{lines_by, nobody, Script}
 use Rattle.cod_seg.specs.Seg.{Seg}
 use Rattle.cod_seg.specs.Start.{IsNew}
-use Rattle.cod_stripe.specs.Building.{frail_below}
+use Rattle.cod_stripe.specs.Building.{AreUntouched, frail_below}
 use Rattle.cod_advance.specs.Worlds.{seg_at}
 use Rattle.cod_replay.specs.State.{all_rooms, play_at}
 use Rattle.cod_replay.specs.Tasks.{Play, whole_task}
 
--- a segment was just built, over regions of a shelf
+-- a segment was just built, over regions of a shelf on which no call was made
 pub record IsBuilt (x : Script) (regions : AllRegions) (i : ℕ) (s : Seg) : Type 0 where
   pub new : IsNew s
+  pub untouched : AreUntouched s.cols x.shape.n
   pub site : s.site ≡ site_as regions.tell x.shape x.nodes i
   pub plain : s.pools ≡ None
   pub frail : s.frail ≡ frail_below regions.never_fail x.nodes

@@ -13,8 +13,9 @@ use Rattle.cod_script.specs.Sound.{IsScenario}
 use Rattle.cod_seg.specs.Seg.{Seg}
 use Rattle.cod_seg.specs.Start.{IsNew}
 use Rattle.cod_segment.specs.Events.{kills_at}
+use Rattle.cod_stripe.specs.Building.{AreUntouched}
 use Rattle.cod_turns.specs.Turns.{IsLineAt}
-use Rattle.cod_advance.specs.Histories.{Leads, Moment}
+use Rattle.cod_advance.specs.Histories.{Moment}
 use Rattle.cod_advance.specs.Moments.{AreSlips, IsMoment}
 use Rattle.cod_advance.specs.Worlds.{seg_at}
 use Rattle.cod_replay.specs.State.{all_rooms, course_of, moment_of, places_of, play_at, slips_of, State}
@@ -41,9 +42,10 @@ pub record IsPlay (x : Script) (who : ℕ) (p : Play) : Type 0 where
   pub here : (l : Line) → IsLineAt x who p.next l → IsBegunBy l.line l.what (task_of p)
   pub later : (i : ℕ) (l : Line) → p.next < i → IsLineAt x who i l → task_at p.tasks i ≡ whole_task x.shape l
 
--- the i-th segment was just built, over the nodes of which the shelf may fail on these
+-- the i-th segment was just built, over the nodes of which the shelf may fail on these; no device call was made on its regions
 pub record IsFirst (x : Script) (told : Bool) (frail : List ℕ) (i : ℕ) (s : Seg) : Type 0 where
   pub new : IsNew s
+  pub untouched : AreUntouched s.cols x.shape.n
   pub site : s.site ≡ site_as told x.shape x.nodes i
   pub plain : s.pools ≡ None
   pub frail_is : s.frail ≡ frail
@@ -57,19 +59,16 @@ pub record AreFirst (x : Script) (told : Bool) (frail : List ℕ) (segs : List S
 abbrev pub beginning : Script → List Seg → Moment
 beginning x segs = record { segs = segs; kills = replicate x.nodes None; places = record { next = λ c. 0; clock = λ c. 0 } }
 
--- Turns of some clients have led there from segments that were just built, each as its event promises, with its device calls.
-pub record IsLed (s : State) : Type 0 where
-  pub first : List Seg
-  pub turns : List ℕ
-  pub built : AreFirst s.script s.told s.frail first
-  pub leads : Leads (course_of s) turns (beginning s.script first) (moment_of s)
+-- Nothing was done yet: the segments were just built.
+pub record IsFresh (s : State) : Type 0 where
+  pub built : AreFirst s.script s.told s.frail s.segs
+  pub begins : moment_of s ≡ beginning s.script s.segs
 
 -- Some turns have led there from the start; each client's slip is one for its call; the board and the pools are those of the nodes; and on
 -- each node the rooms of all segments and what is free add up to what the node has.
 pub record Stands (s : State) : Type 0 where
   pub scenario : IsScenario s.script
   pub moment : IsMoment (course_of s) s.segs (kills_at s.kills) (places_of s.plays)
-  pub led : IsLed s
   pub frail : (i : ℕ) → i < length s.segs → (seg_at s.segs i).frail ≡ s.frail
   pub slips : AreSlips (course_of s) s.segs (places_of s.plays) (slips_of s.plays)
   pub count : length s.plays ≡ length s.script.clients

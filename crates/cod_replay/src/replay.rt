@@ -4,15 +4,15 @@ ghost use Rattle.cod_board.specs.Kills.{kill_of};
 ghost use Rattle.cod_place.specs.Rooms.{bytes_on};
 ghost use Rattle.cod_script.specs.Sound.{IsScenario};
 ghost use Rattle.cod_segment.specs.declared.asking.Outcome.{Outcome as Came};
-ghost use Rattle.cod_advance.specs.Histories.{Takes};
+ghost use Rattle.cod_advance.specs.Histories.{Runs, Takes};
 ghost use Rattle.cod_advance.specs.Served.{turned_by};
 ghost use Rattle.cod_advance.specs.Worlds.{AreSegmentsOf, seg_at};
 ghost use Rattle.cod_turns.specs.Open.{NothingOpen};
-ghost use Rattle.cod_turns.specs.Rounds.{IsProgress, IsRunFrom};
+ghost use Rattle.cod_turns.specs.Rounds.{IsProgress};
 ghost use Rattle.cod_turns.specs.Turns.{AllEnded, board_clock, start, Turn};
 ghost use Rattle.cod_turns.specs.declared.turned.Turned.TheVariants as turned;
 ghost use Rattle.cod_replay.specs.Serving.{failed, Serves};
-ghost use Rattle.cod_replay.specs.Standing.{AreIdle, IsBareOf, IsLed, Stands};
+ghost use Rattle.cod_replay.specs.Standing.{AreIdle, IsBareOf, IsFresh, Stands};
 ghost use Rattle.cod_replay.specs.State.{all_rooms, course_of, course_over, fenced, moment_of, most_of, play_at, work_of, world_in};
 ghost use Rattle.cod_replay.specs.Tasks.{due_of};
 ghost use Rattle.cod_replay.specs.declared.task.Due.TheVariants as due;
@@ -79,6 +79,7 @@ impl<H: Shelf + Drop> Replay<H> {
     pub fn build(alloc: Global, scenario: Scenario, shelf: H) -> Result<Replay<H>, OutOfMemory>
         ensures course { IfOk result (λ r. course_of r ≡ course_over scenario (fenced scenario.nodes (H.regions shelf))) }
         ensures world { IfOk result (λ r. world_in r ≡ start (length scenario.segments)) }
+        ensures fresh { IfOk result IsFresh }
     {
         let mut scenario = scenario;
         let whole = Snapshot::of(&scenario);
@@ -175,12 +176,11 @@ impl<H: Shelf + Drop> Replay<H> {
 
     /// Makes the turns of the schedule, and then rounds of one turn for each client, in order, until all have ended.
     pub fn run(&mut self)
-        ensures run { IsRunFrom (course_of self.old) (world_in self.old) (world_in self.new) }
+        ensures run { Runs (course_of self.old) (moment_of self.old) (moment_of self.new) }
         ensures course { course_of self.new ≡ course_of self.old }
         ensures nothing { NothingOpen (world_in self.new) }
         ensures idle { AreIdle self.new.segs }
         ensures segments { AreSegmentsOf (course_of self.new) self.new.segs }
-        ensures led { IsLed self.new }
     {
         self.count();
         cod_turns::run(self);
@@ -244,6 +244,8 @@ impl<H: Shelf + Drop> Machine for Replay<H> {
     ghost work = { work_of };
 
     ghost most = { most_of };
+
+    ghost takes = { λ x who a b. Takes x who (moment_of a) (moment_of b) };
 
     fn clients(&self) -> u32 {
         self.count()

@@ -2,3 +2,4 @@ pub mod AtOnce
 pub mod Filling
 pub mod Frail
 pub mod Giving
+pub mod Rooming

@@ -18,7 +18,16 @@ abbrev pub HomesHaveRoom : Shape → (segment nodes from : ℕ) → (free : List
 HomesHaveRoom g segment nodes from free =
     (i : ℕ) → from ≤ i → i < g.n → column_size g i ≤ slice_index free (home_of segment i nodes)
 
--- so many columns, each new
+-- no device call was made on its region
+abbrev pub IsUntouched : Col → Type 0
+IsUntouched c = (c.state.device.reads ≡ 0) × (c.state.device.writes ≡ 0)
+
+-- so many columns, none of them touched
+abbrev pub AreUntouched : List Col → (count : ℕ) → Type 0
+AreUntouched cols count = (i : ℕ) → i < count → IsUntouched (col_at cols i)
+
+-- so many columns, each new, and untouched
 pub record AreNew (site : Site) (frail : List ℕ) (cols : List Col) (count : ℕ) : Type 0 where
   pub size : length cols ≡ count
   pub each : (i : ℕ) → i < count → IsNewColumn site frail None i (col_at cols i)
+  pub untouched : AreUntouched cols count

@@ -9,7 +9,7 @@ ghost use Rattle.cod_seg.specs.Seg.{Col};
 ghost use Rattle.cod_seg.specs.Sound.{is_frail};
 ghost use Rattle.cod_seg.specs.Start.{IsNew, IsNewColumn};
 ghost use Rattle.cod_segment.specs.Events.{rooms_of};
-ghost use Rattle.cod_stripe.specs.Building.{AreNew, frail_below, HomesHaveRoom};
+ghost use Rattle.cod_stripe.specs.Building.{AreNew, AreUntouched, frail_below, HomesHaveRoom, IsUntouched};
 
 use cod_chronicle::{Chronicle, Link};
 use cod_claims::Claims;
@@ -34,6 +34,7 @@ pub(crate) fn build<R: Region, H: Shelf<Region = R>>(
     requires pools { length pools.old.free ≡ nodes }
     requires room { HomesHaveRoom g segment.0 nodes 0 pools.old.free }
     ensures new { IfOk result (λ s. IsNew s) }
+    ensures untouched { IfOk result (λ s. AreUntouched s.cols g.n) }
     ensures site { IfOk result (λ s. s.site ≡ record { shape = g; segment = segment.0; nodes = nodes; told = R.tells }) }
     ensures plain { IfOk result (λ s. s.pools ≡ None) }
     ensures frail { IfOk result (λ s. s.frail ≡ frail_below (H.regions shelf.now).never_fail nodes) }
@@ -120,6 +121,7 @@ fn column<R: Region, H: Shelf<Region = R>>(
     requires room { column_size g col ≤ slice_index pools.old.free node.0 }
     ensures new { (site : Site) (frail : List ℕ) → site.shape ≡ g → site.told ≡ R.tells → home_of site.segment col site.nodes ≡ node.0
         → (is_frail frail node.0 ≡ false → (H.regions shelf.now).never_fail node ≡ true) → IfOk result (λ c. IsNewColumn site frail None col c) }
+    ensures untouched { IfOk result IsUntouched }
     ensures rooms { (rest : List Room) → AddUp pools.old rest → MatchResult result (λ c. AddUp pools.new (c.room ∷ rest)) (λ _. AddUp pools.new rest) }
     ensures came { (rooms : List Room) → CameFrom pools.old rooms → MatchResult result (λ c. CameFrom pools.new (c.room ∷ rooms)) (λ _. CameFrom pools.new rooms) }
     ensures free { (x : ℕ) → x ≢ node.0 → slice_index pools.new.free x ≡ slice_index pools.old.free x }

@@ -5,6 +5,7 @@ mod around;
 mod building;
 mod rebuilding;
 mod serving;
+mod sharing;
 mod stripe;
 mod updating;
 

@@ -11,7 +11,7 @@ ghost use Rattle.cod_seg.specs.Sound.{is_frail};
 ghost use Rattle.cod_seg.specs.Start.{IsNew};
 ghost use Rattle.cod_seg.specs.declared.next.Step.TheVariants as step;
 ghost use Rattle.cod_repair.specs.Columns.{line_of};
-ghost use Rattle.cod_stripe.specs.Building.{frail_below, HomesHaveRoom};
+ghost use Rattle.cod_stripe.specs.Building.{AreUntouched, frail_below, HomesHaveRoom};
 ghost use Rattle.cod_segment.specs.Events.{Balances, call_in, Costs, HasRoom, is_answered, IsAsked, IsOutcome, IsSettingOf, kills_at, Makes, NoneFails, request_of, rooms_of};
 ghost use Rattle.cod_segment.specs.Exact.{Exactly};
 ghost use Rattle.cod_board.specs.Kills.{Keeps};
@@ -63,6 +63,7 @@ impl<R: Region> Stripe<R> {
         requires pools { length pools.old.free ≡ nodes }
         requires room { HomesHaveRoom g seg.0 nodes 0 pools.old.free }
         ensures new { IfOk result (λ s. IsNew s) }
+        ensures untouched { IfOk result (λ s. AreUntouched s.cols g.n) }
         ensures site { IfOk result (λ s. s.site ≡ record { shape = g; segment = seg.0; nodes = nodes; told = R.tells }) }
         ensures plain { IfOk result (λ s. s.pools ≡ None) }
         ensures frail { IfOk result (λ s. s.frail ≡ frail_below (H.regions shelf.now).never_fail nodes) }

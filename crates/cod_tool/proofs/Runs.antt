@@ -22,12 +22,12 @@ use Rattle.cod_seg.specs.Seg.{Seg}
 use Rattle.cod_text.specs.Unique.{EntryFits, HasChronicles}
 use Rattle.cod_text.proofs.ScenarioNames.{scenario_has_names}
 use Rattle.cod_turns.specs.Turns.{Course, World, start}
-use Rattle.cod_turns.specs.Rounds.{IsRun, IsRunFrom}
+use Rattle.cod_turns.specs.Rounds.{IsRun, IsRunFrom, turns_of}
 use Rattle.cod_turns.proofs.Rounding.{run_leaves_history}
-use Rattle.cod_advance.specs.Histories.{Leads, Moment}
+use Rattle.cod_advance.specs.Histories.{Leads, Moment, Runs}
 use Rattle.cod_advance.specs.Worlds.{AreSegmentsOf}
 use Rattle.cod_replay.specs.State.{all_rooms, course_of, moment_of, State, world_in}
-use Rattle.cod_replay.specs.Standing.{AreFirst, AreIdle, beginning, IsLed, Stands}
+use Rattle.cod_replay.specs.Standing.{AreFirst, AreIdle, beginning, IsFresh, Stands}
 use Rattle.cod_tool.specs.Ends.{AllFit, chronicles_of, course, HasRun, IsLedTo}
 use Rattle.cod_tool.specs.Replays.{Ran}
 
@@ -105,32 +105,35 @@ has_chronicles told x may owes e h fit =
 room_in : (s : State) → Stands s → (node : ℕ) → node < s.script.nodes → bytes_on node (all_rooms s.segs) ≤ s.script.capacity
 room_in s st node lt = let sum = st.sums.sums node (omega (arith, lt, st.pools)) in omega (arith, sum)
 
--- the same way to a state, said of the scenario and the shelf
-led_to : (on : AllRegions) (x : Script) (s : State) → course_of s ≡ course on x → IsLed s → IsLedTo on x (moment_of s)
-led_to on x s is led =
+-- the way from the start, said of the scenario and the shelf
+led_to : (on : AllRegions) (x : Script) (rounds : ℕ) (s : State) (e : Moment) → course_of s ≡ course on x → IsFresh s → Leads (course on x) (turns_of x rounds) (moment_of s) e
+    → IsLedTo on x rounds e
+led_to on x rounds s e is fresh leads =
     let script : s.script ≡ x = ap (λ (c : Course). c.script) is in
     let told : s.told ≡ on.tell = ap (λ (c : Course). c.told) is in
     record {
       frail = s.frail;
       may = λ node. ap (λ (c : Course). c.may node) is;
-      first = led.first;
-      built = subst (λ (b : Bool). AreFirst x b s.frail led.first) told (subst (λ (y : Script). AreFirst y s.told s.frail led.first) script led.built);
-      turns = led.turns;
-      leads = subst (λ (c : Course). Leads c led.turns (beginning x led.first) (moment_of s)) is
-          (subst (λ (y : Script). Leads (course_of s) led.turns (beginning y led.first) (moment_of s)) script led.leads);
+      first = s.segs;
+      built = subst (λ (b : Bool). AreFirst x b s.frail s.segs) told (subst (λ (y : Script). AreFirst y s.told s.frail s.segs) script fresh.built);
+      leads = subst (λ (y : Script). Leads (course on x) (turns_of x rounds) (beginning y s.segs) e) script
+          (subst (λ (m : Moment). Leads (course on x) (turns_of x rounds) m e) fresh.begins leads);
     }
 
 -- a run of the scenario, of which it stands, has come to its end
 pub has_run : (on : AllRegions) (x : Script) (first last : State) → course_of first ≡ course on x → world_in first ≡ start (length x.segments)
-    → IsRunFrom (course_of first) (world_in first) (world_in last) → course_of last ≡ course_of first → AreSegmentsOf (course_of last) last.segs → IsLed last → AreIdle last.segs
+    → IsFresh first → Runs (course_of first) (moment_of first) (moment_of last) → course_of last ≡ course_of first → AreSegmentsOf (course_of last) last.segs
+    → AreIdle last.segs
     → Stands last
     → AllFit (λ (s : Seg). s.log) last.segs → HasRun on x last
-has_run on x first last course_is start_is run same are led idle stands fit =
+has_run on x first last course_is start_is fresh ran same are idle stands fit =
     let is : course_of last ≡ course on x = same ∙ course_is in
     let script : last.script ≡ x = ap (λ (c : Course). c.script) is in
     let sound : IsScenario x = subst IsScenario script stands.scenario in
-    let whole : IsRun (course on x) (world_in last) =
-    subst (λ (w : World). IsRunFrom (course on x) w (world_in last)) start_is (subst (λ (c : Course). IsRunFrom c (world_in first) (world_in last)) course_is run) in
+    let over = subst (λ (c : Course). Runs c (moment_of first) (moment_of last)) course_is ran in
+    let both = subst (λ (w : World). (run : IsRunFrom (course on x) w (world_in last)) × Leads (course on x) (turns_of x run.count) (moment_of first) (moment_of last))
+    start_is (over.run, over.leads) in
+    let whole : IsRun (course on x) (world_in last) = both.0 in
     let narrow = run_leaves_history (course on x) (world_in last) sound whole in
     let history = history_wider on.tell x (course on x).may (λ node. not (on.never_fail (node_id node))) (owed x) (chronicles_of (moment_of last))
     (λ node. fence_wider (nat_lt node x.nodes) (on.never_fail (node_id node))) narrow in
@@ -138,7 +141,7 @@ has_run on x first last course_is start_is run same are led idle stands fit =
       script = script;
       ended = record {
         run = whole;
-        led = led_to on x last is led;
+        led = led_to on x both.0.count first (moment_of last) course_is fresh both.1;
         history = history;
         segments = subst (λ (c : Course). AreSegmentsOf c last.segs) is are;
         idle = idle;

@@ -16,16 +16,12 @@ use Rattle.cod_repair.specs.Columns.{line_of as line_at}
 use Rattle.cod_text.specs.Printed.{chronicle_text, layout_text, node_text}
 use Rattle.cod_text.specs.Summary.{summary_text}
 use Rattle.cod_text.specs.Unique.{EntryFits, Fits, HasChronicles, HasNames, WhyFits}
-use Rattle.cod_turns.specs.Turns.{Course, World}
-use Rattle.cod_turns.specs.Rounds.{IsRun}
-use Rattle.cod_advance.specs.Histories.{Leads, Moment}
-use Rattle.cod_advance.specs.Worlds.{AreSegmentsOf, world_of}
+use Rattle.cod_turns.specs.Turns.{Course}
+use Rattle.cod_turns.specs.Rounds.{IsRun, turns_of}
+use Rattle.cod_advance.specs.Histories.{Leads, Moment, world_at}
+use Rattle.cod_advance.specs.Worlds.{AreSegmentsOf}
 use Rattle.cod_replay.specs.Standing.{AreFirst, AreIdle, beginning}
 use Rattle.cod_replay.specs.State.{all_rooms, course_over, fenced, moment_of, State}
-
--- as turns see it
-abbrev pub world_at : Moment → World
-world_at e = world_of e.segs (kills_at e.kills) e.places
 
 abbrev pub chronicles_of : Moment → List (List Entry)
 chronicles_of e = map (λ s. s.log) e.segs
@@ -38,23 +34,22 @@ taken_at e node = bytes_on node (all_rooms e.segs)
 abbrev pub course : AllRegions → Script → Course
 course on x = course_over x (fenced x.nodes on)
 
--- Turns of some clients have led there from segments that were just built over the shelf, each turn as its event promises, with its device
--- calls. The shelf may fail on these nodes of the scenario.
-pub record IsLedTo (on : AllRegions) (x : Script) (e : Moment) : Type 0 where
+-- The turns of a run with so many rounds have led there from segments that were just built over the shelf, with no device call yet, each
+-- turn as its event promises, with its device calls. The shelf may fail on these nodes of the scenario.
+pub record IsLedTo (on : AllRegions) (x : Script) (rounds : ℕ) (e : Moment) : Type 0 where
   pub frail : List ℕ
   pub may : (node : ℕ) → is_frail frail node ≡ (course on x).may node
   pub first : List Seg
   pub built : AreFirst x on.tell frail first
-  pub turns : List ℕ
-  pub leads : Leads (course on x) turns (beginning x first) e
+  pub leads : Leads (course on x) (turns_of x rounds) (beginning x first) e
 
 -- A run of the scenario over the shelf has come to this end. Its chronicles are one legal history of the scenario: `on` says what holds of
--- all regions. Its segments are sound, each at its site, with nothing open, and the run has led them there from the start. On each node the
+-- all regions. Its segments are sound, each at its site, with nothing open, and the turns of that run have led them there. On each node the
 -- rooms take no more than there is. The scenario's names and the numbers of the chronicles are such that the printed text has one meaning
 -- (`read_one_way` of cod_text).
 pub record IsEnd (on : AllRegions) (x : Script) (e : Moment) : Type 0 where
   pub run : IsRun (course on x) (world_at e)
-  pub led : IsLedTo on x e
+  pub led : IsLedTo on x run.count e
   pub history : IsHistory on.tell x (λ node. not (on.never_fail (node_id node))) (owed x) (chronicles_of e)
   pub segments : AreSegmentsOf (course on x) e.segs
   pub idle : AreIdle e.segs

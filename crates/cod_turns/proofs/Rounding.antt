@@ -14,7 +14,7 @@ use Rattle.cod_turns.specs.declared.turned.Turned.{Turned}
 use Rattle.cod_turns.specs.declared.turned.Turned.TheVariants.{Ended, Killed, Held, Moved, Answered}
 use Rattle.cod_turns.specs.Turns.{World, Course, start, IsLineAt, OthersStay, Serves, Turn, Turns, AllEnded}
 use Rattle.cod_turns.specs.Open.{AreItsCalls}
-use Rattle.cod_turns.specs.Rounds.{round, Rounds, IsRunFrom, IsRun, RunLeavesHistory, RunLeavesNothingOpen, IsProgress, TurnsWork, lines_left, measure, TurnsNeverRaise, RoundsFall}
+use Rattle.cod_turns.specs.Rounds.{round, Rounds, IsRunFrom, IsRun, RunLeavesHistory, RunLeavesNothingOpen, IsProgress, Takings, TurnsWork, lines_left, measure, TurnsNeverRaise, RoundsFall}
 use Rattle.cod_turns.proofs.Opening.{turns_open, start_is_of_its_lines, none_open, one_segment}
 use Rattle.cod_turns.proofs.Running.{turns, history, start_sound, Sound}
 
@@ -284,38 +284,46 @@ so_far_end : (x : Course) (n : ℕ) (w v : World) → SoFar x n w v → AllEnded
 so_far_end x zero w v h e = (h, subst (AllEnded x.script) h e)
 so_far_end x (suc n) w v h e = (h.0, (h.1.0, h.1.1, so_far_end x n h.1.0 v h.1.2 e))
 
-pub record RunSoFar (x : Course) (w v : World) : Type 0 where
+-- the schedule, and so many rounds
+pub record RunSoFar (x : Course) (count : ℕ) (w v : World) : Type 0 where
   pub scheduled : World
   pub schedule : Turns x x.script.schedule w scheduled
-  pub count : ℕ
   pub rounds : SoFar x count scheduled v
   pub opened : AreItsCalls x.script v
 
-pub run_begins : (x : Course) (most : ℕ) (w v : World) (a b : ℕ) → AreItsCalls x.script w → TurnsWork x most x.script.schedule w v a b → RunSoFar x w v
+pub run_begins : (x : Course) (most : ℕ) (w v : World) (a b : ℕ) → AreItsCalls x.script w → TurnsWork x most x.script.schedule w v a b → RunSoFar x 0 w v
 run_begins x most w v a b calls t =
     let all = are_turns x most x.script.schedule w v a b t in
     record {
       scheduled = v;
       schedule = all;
-      count = 0;
       rounds = refl;
       opened = turns_open x x.script.schedule w v all calls;
     }
 
-pub run_goes_on : (x : Course) (most : ℕ) (first w v : World) (a b : ℕ) → RunSoFar x first w → ¬ (AllEnded x.script w) → TurnsWork x most (round x.script) w v a b
-    → RunSoFar x first v
-run_goes_on x most first w v a b r some t =
+pub run_goes_on : (x : Course) (most n : ℕ) (first w v : World) (a b : ℕ) → RunSoFar x n first w → ¬ (AllEnded x.script w) → TurnsWork x most (round x.script) w v a b
+    → RunSoFar x (suc n) first v
+run_goes_on x most n first w v a b r some t =
     let all = are_turns x most (round x.script) w v a b t in
     record {
       scheduled = r.scheduled;
       schedule = r.schedule;
-      count = suc r.count;
-      rounds = so_far_push x r.count r.scheduled w v r.rounds some all;
+      rounds = so_far_push x n r.scheduled w v r.rounds some all;
       opened = turns_open x (round x.script) w v all r.opened;
     }
 
-pub run_is : (x : Course) (first w : World) → RunSoFar x first w → AllEnded x.script w → IsRunFrom x first w
-run_is x first w r e = record { scheduled = r.scheduled; schedule = r.schedule; count = r.count; rounds = so_far_end x r.count r.scheduled w r.rounds e }
+-- where all have ended these are all rounds
+pub run_is : (x : Course) (n : ℕ) (first w : World) → RunSoFar x n first w → AllEnded x.script w → (run : IsRunFrom x first w) × (n ≡ run.count)
+run_is x n first w r e = (record { scheduled = r.scheduled; schedule = r.schedule; count = n; rounds = so_far_end x n r.scheduled w r.rounds e }, refl)
+
+-- what a thing becomes by turns: by one more, and by some more
+pub takings_push : {M : Type 0} (takes : ℕ → M → M → Type 0) (cs : List ℕ) (who : ℕ) (a b c : M) → Takings takes cs a b → takes who b c → Takings takes (cs ++ who ∷ []) a c
+takings_push takes [] who a b c h t = (c, subst (λ k. takes who k c) h t, refl)
+takings_push takes (d ∷ ds) who a b c h t = (h.0, h.1, takings_push takes ds who h.0 b c h.2 t)
+
+pub takings_join : {M : Type 0} (takes : ℕ → M → M → Type 0) (cs ds : List ℕ) (a b c : M) → Takings takes cs a b → Takings takes ds b c → Takings takes (cs ++ ds) a c
+takings_join takes [] ds a b c h t = subst (λ k. Takings takes ds k c) h t
+takings_join takes (e ∷ es) ds a b c h t = (h.0, h.1, takings_join takes es ds h.0 b c h.2 t)
 
 -- the same course and bound under other names
 pub turn_as : (y x : Course) (n m who : ℕ) (u v : World) (l b : ℕ) (turned : Turned) → y ≡ x → n ≡ m → Turn y who u v turned → IsProgress n turned l b

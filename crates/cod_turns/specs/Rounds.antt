@@ -1,5 +1,5 @@
 -- Rounds of turns, and why they end.
-use Rattle.std.specs.Prelude.{◌≡◌, ℕ, zero, suc, ◌+◌, ◌-◌, ◌*◌, ◌<◌, ◌≤◌, List, [], ◌∷◌, length}
+use Rattle.std.specs.Prelude.{◌≡◌, ℕ, zero, suc, ◌+◌, ◌-◌, ◌*◌, ◌<◌, ◌≤◌, List, [], ◌∷◌, ◌++◌, length}
 use Rattle.std.specs.List.{range_with_len}
 use Rattle.cod_script.specs.Owed.{owed, IsHistory}
 use Rattle.cod_script.specs.Script.{Script, lines_by}
@@ -25,6 +25,17 @@ pub record IsRunFrom (x : Course) (w v : World) : Type 0 where
   pub schedule : Turns x x.script.schedule w scheduled
   pub count : ℕ
   pub rounds : Rounds x count scheduled v
+
+-- all turns of a run with so many rounds
+abbrev pub turns_of : Script → (rounds : ℕ) → List ℕ
+turns_of x zero = x.schedule
+turns_of x (suc n) = turns_of x n ++ round x
+
+-- turns of these clients, one after another, where it is said what one turn makes of a thing
+module _ {M : Type 0} (takes : ℕ → M → M → Type 0) where
+  abbrev pub Takings : List ℕ → M → M → Type 0
+  Takings [] a b = b ≡ a
+  Takings (who ∷ rest) a b = (m : M) × takes who a m × Takings rest m b
 
 -- a whole run, from the start
 abbrev pub IsRun : Course → World → Type 0

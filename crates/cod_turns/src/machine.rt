@@ -1,7 +1,7 @@
 //! A run of anything that makes turns.
 ghost use Rattle.std.specs.Prelude.{◌≡◌, ◌<◌, ◌↔◌, length, IsTrue};
 ghost use Rattle.cod_turns.specs.Open.{AreItsCalls};
-ghost use Rattle.cod_turns.specs.Rounds.{IsRunFrom, TurnsWork, round};
+ghost use Rattle.cod_turns.specs.Rounds.{IsRunFrom, round, Takings, turns_of, TurnsWork};
 ghost use Rattle.cod_script.specs.Sound.{IsScenario};
 
 use crate::turned::Turned;
@@ -21,6 +21,9 @@ pub trait Machine {
 
     ghost most: { Self → ℕ };
 
+    // what one turn of a client makes of it
+    ghost takes: { Course → ℕ → Self → Self → Type 0 };
+
     /// How many clients there are.
     fn clients(&self) -> u32
         ensures { result ≡ length (course self.now).script.clients };
@@ -34,6 +37,7 @@ pub trait Machine {
         requires { client < length (course self.old).script.clients }
         ensures turn { Turn (course self.old) client (world self.old) (world self.new) result }
         ensures work { IsProgress (most self.old) result (work self.old) (work self.new) }
+        ensures takes { takes (course self.old) client self.old self.new }
         ensures course { course self.new ≡ course self.old }
         ensures most { most self.new ≡ most self.old };
 
@@ -46,6 +50,7 @@ pub trait Machine {
 pub fn scheduled_turns<M: Machine>(m: &mut M)
     requires { IsScenario (M.course m.old).script }
     ensures turns { TurnsWork (M.course m.old) (M.most m.old) (M.course m.old).script.schedule (M.world m.old) (M.world m.new) (M.work m.old) (M.work m.new) }
+    ensures takes { Takings (M.takes (M.course m.old)) (M.course m.old).script.schedule m.old m.new }
     ensures course { M.course m.new ≡ M.course m.old }
     ensures most { M.most m.new ≡ M.most m.old }
 {
@@ -59,6 +64,7 @@ pub fn scheduled_turns<M: Machine>(m: &mut M)
 /// One turn of each client, in order.
 pub fn one_round<M: Machine>(m: &mut M)
     ensures turns { TurnsWork (M.course m.old) (M.most m.old) (round (M.course m.old).script) (M.world m.old) (M.world m.new) (M.work m.old) (M.work m.new) }
+    ensures takes { Takings (M.takes (M.course m.old)) (round (M.course m.old).script) m.old m.new }
     ensures course { M.course m.new ≡ M.course m.old }
     ensures most { M.most m.new ≡ M.most m.old }
 {
@@ -68,11 +74,12 @@ pub fn one_round<M: Machine>(m: &mut M)
     }
 }
 
-/// A run: the turns of the schedule, and then rounds of all clients until each has ended.
+/// A run: the turns of the schedule, and then rounds of all clients until each has ended. These are all turns that are made.
 pub fn run<M: Machine>(m: &mut M)
     requires scenario { IsScenario (M.course m.old).script }
     requires calls { AreItsCalls (M.course m.old).script (M.world m.old) }
-    ensures run { IsRunFrom (M.course m.old) (M.world m.old) (M.world m.new) }
+    ensures run { (run : IsRunFrom (M.course m.old) (M.world m.old) (M.world m.new))
+        × Takings (M.takes (M.course m.old)) (turns_of (M.course m.old).script run.count) m.old m.new }
     ensures course { M.course m.new ≡ M.course m.old }
 {
     scheduled_turns(m);

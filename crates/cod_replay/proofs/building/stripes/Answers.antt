@@ -2,7 +2,7 @@ use Rattle.std.proofs.Common.{◌≡◌, ◌+◌, List, ℕ, Bool, sym, ◌∙�
 use Rattle.cod_types.specs.Limits.{Shape}
 use Rattle.cod_chronicle.specs.Said.{Site, site_as}
 use Rattle.cod_seg.specs.Seg.{Seg}
-use Rattle.cod_stripe.specs.Building.{frail_below, HomesHaveRoom}
+use Rattle.cod_stripe.specs.Building.{AreUntouched, frail_below, HomesHaveRoom}
 use Rattle.cod_replay.specs.Building.{AreBuilt}
 use Rattle.cod_replay.specs.State.{all_rooms}
 use Rattle.cod_replay.proofs.Making.{built_more, built_none, homes_have_room}
@@ -35,6 +35,7 @@ segments-preserved g c =
     c.segments.invariant
     (record {
       new = c.in_ok-build.ensures.new;
+      untouched = subst (λ (s : Shape). AreUntouched c.in_ok-build.field-0.cols s.n) c.geometry-g.ensures c.in_ok-build.ensures.untouched;
       site = site_is c.in_ok-build.field-0.site c.geometry-g.result.now c.args.scenario.now.shape c.segments.seg c.nodes.result c.args.scenario.now.nodes g.H.Region.Region.tells
           (g.H.Shelf.regions c.args.shelf.now).tell c.in_ok-build.ensures.site c.geometry-g.ensures c.nodes.ensures (g.met.H.Shelf.telling c.args.shelf.now);
       plain = c.in_ok-build.ensures.plain;

@@ -4,7 +4,7 @@ use Rattle.cod_place.specs.Rooms.{AddUp, CameFrom}
 use Rattle.cod_place.specs.Stores.{came_none_lem}
 use Rattle.cod_types.specs.declared.call.NodeId.{NodeId}
 use Rattle.cod_seg.specs.Seg.{Col}
-use Rattle.cod_stripe.proofs.Filling.{new_column}
+use Rattle.cod_stripe.proofs.Filling.{new_column, untouched_column}
 use Rattle.cod_stripe.proofs.Giving.{taken}
 use Rattle.cod_stripe.proofs.building.column.Goals as goal
 use Rattle.cod_stripe.proofs.building.column.Goals.{then-col-k, else-col-k}
@@ -42,4 +42,16 @@ returns-clause-came g c = λ rooms came.
     elim c.if-col-k.branch [
       | then-col-k w ↦ subst (λ (x : Col). CameFrom c.take.new.self (x.room ∷ rooms)) (sym (w.result-is ∙ w.of_data.ensures)) all
       | else-col-k w ↦ subst (λ (x : Col). CameFrom c.take.new.self (x.room ∷ rooms)) (sym (w.result-is ∙ w.of_parity.ensures)) all
+    ]
+
+pub returns-clause-untouched : goal.returns-clause-untouched
+returns-clause-untouched g c =
+    let region = c.in_ok-region.region in
+    let d = g.R.Region.device region in
+    let clean = untouched_column c.in-Ok.room d c.args.g in
+    let never = (g.H.Shelf.regions c.args.shelf.now).never_fail c.args.node in
+    elim c.if-col-k.branch [
+      | then-col-k w ↦ clean 0 10000 d.content c.column_size-bytes.result never c.if-col-k.result w.of_data.result c.in_ok-region.ensures.fresh w.result-is w.of_data.ensures
+      | else-col-k w ↦
+          clean w.reserve.result 10000 d.content c.column_size-bytes.result never c.if-col-k.result w.of_parity.result c.in_ok-region.ensures.fresh w.result-is w.of_parity.ensures
     ]

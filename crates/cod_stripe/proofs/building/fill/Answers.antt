@@ -24,7 +24,7 @@ loop-col-preserved g c =
     let below : c.loop-col.col < c.args.g.n = (let t = c.loop-col-test.true in let e = c.n-col-end.ensures in omega (arith, t, e)) in
     let new = c.in_ok-column.ensures.new site frail refl refl (sym home) (sure_below never c.args.nodes c.home-node.result c.home-node.ensures.there) in
     rw c.push.ensures (record {
-      made = one_more site frail cols c.loop-col.col column c.loop-col.invariant.made new;
+      made = one_more site frail cols c.loop-col.col column c.loop-col.invariant.made new c.in_ok-column.ensures.untouched;
       free = room_left c.args.g c.args.segment.0 c.args.nodes c.loop-col.col c.loop-col.pools.free c.column.new.pools.free c.requires.some below c.loop-col.invariant.free
           (λ x other. c.column.ensures.free x (λ same. other (same ∙ home)));
       rooms = λ rest adds. filled c.column.new.pools cols column rest (c.in_ok-column.ensures.rooms (rooms_in cols ++ rest) (c.loop-col.invariant.rooms rest adds));

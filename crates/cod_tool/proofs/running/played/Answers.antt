@@ -6,6 +6,6 @@ use Rattle.cod_tool.proofs.running.played.Goals as goal
 
 pub returns : goal.returns
 returns g c =
-    has_run (g.H.Shelf.regions c.args.shelf) c.args.scenario c.in-Ok.replay c.run.new.self c.in-Ok.ensures.course c.in-Ok.ensures.world c.run.ensures.run c.run.ensures.course
-    c.run.ensures.segments c.run.ensures.led c.run.ensures.idle c.stripes.ensures.stands
+    has_run (g.H.Shelf.regions c.args.shelf) c.args.scenario c.in-Ok.replay c.run.new.self c.in-Ok.ensures.course c.in-Ok.ensures.world c.in-Ok.ensures.fresh c.run.ensures.run c.run.ensures.course
+    c.run.ensures.segments c.run.ensures.idle c.stripes.ensures.stands
     (subst (λ (l : List Seg). AllFit (λ (s : Seg). s.log) l) c.stripes.ensures.segments c.all_fit.ensures)

@@ -1,6 +1,7 @@
-use Rattle.std.proofs.Common.{◌∙◌, sym, subst}
+use Rattle.std.proofs.Common.{ℕ, suc, ◌∙◌, sym, subst}
 use Rattle.cod_turns.specs.Turns.{Course, AllEnded}
-use Rattle.cod_turns.proofs.Rounding.{round_as, run_begins, run_goes_on, run_is, rounds_fall}
+use Rattle.cod_turns.specs.Rounds.{round, Takings, turns_of}
+use Rattle.cod_turns.proofs.Rounding.{round_as, run_begins, run_goes_on, run_is, rounds_fall, takings_join}
 use Rattle.cod_turns.proofs.machine.run.Goals as goal
 
 pub rounds-init : goal.rounds-init
@@ -12,7 +13,7 @@ rounds-init g c =
     let a = g.M.Machine.work c.args.m.now in
     let b = g.M.Machine.work c.scheduled_turns.new.m in
     record {
-      run = run_begins x most w v a b c.requires.calls c.scheduled_turns.ensures.turns;
+      run = (0, run_begins x most w v a b c.requires.calls c.scheduled_turns.ensures.turns, c.scheduled_turns.ensures.takes);
       course = c.scheduled_turns.ensures.course;
       most = c.scheduled_turns.ensures.most;
     }
@@ -28,7 +29,7 @@ rounds-smaller g c =
     let b = g.M.Machine.work c.one_round.new.m in
     let p = c.rounds.invariant.course in
     let t = round_as y x (g.M.Machine.most c.rounds.m) most w v a b p c.rounds.invariant.most c.one_round.ensures.turns in
-    rounds_fall x most w v a b c.rounds.invariant.run.opened t
+    rounds_fall x most w v a b c.rounds.invariant.run.1.opened t
     (λ ended. let e = c.is_ended.ensures.1 (subst (λ (k : Course). AllEnded k.script w) (sym p) ended) in let f = c.rounds-test.true in cc)
 
 pub rounds-preserved : goal.rounds-preserved
@@ -42,9 +43,15 @@ rounds-preserved g c =
     let b = g.M.Machine.work c.one_round.new.m in
     let p = c.rounds.invariant.course in
     let t = round_as y x (g.M.Machine.most c.rounds.m) most w v a b p c.rounds.invariant.most c.one_round.ensures.turns in
+    let so_far = c.rounds.invariant.run in
+    let took = subst (λ (k : Course). Takings (g.M.Machine.takes k) (round k.script) c.rounds.m c.one_round.new.m) p c.one_round.ensures.takes in
     record {
-      run = run_goes_on x most (g.M.Machine.world c.args.m.now) w v a b c.rounds.invariant.run
-          (λ ended. let e = c.is_ended.ensures.1 (subst (λ (k : Course). AllEnded k.script w) (sym p) ended) in let f = c.rounds-test.true in cc) t;
+      run = (
+        suc so_far.0,
+        run_goes_on x most so_far.0 (g.M.Machine.world c.args.m.now) w v a b so_far.1
+            (λ ended. let e = c.is_ended.ensures.1 (subst (λ (k : Course). AllEnded k.script w) (sym p) ended) in let f = c.rounds-test.true in cc) t,
+        takings_join (g.M.Machine.takes x) (turns_of x.script so_far.0) (round x.script) c.args.m.now c.rounds.m c.one_round.new.m so_far.2 took,
+      );
       course = c.one_round.ensures.course ∙ p;
       most = c.one_round.ensures.most ∙ c.rounds.invariant.most;
     }
@@ -55,4 +62,6 @@ returns-clause-run g c =
     let w = g.M.Machine.world c.rounds.m in
     let p = c.rounds.invariant.course in
     let f = c.rounds-test.false in
-    run_is x (g.M.Machine.world c.args.m.now) w c.rounds.invariant.run (subst (λ (k : Course). AllEnded k.script w) p (c.is_ended.ensures.0 (cc)))
+    let so_far = c.rounds.invariant.run in
+    let ran = run_is x so_far.0 (g.M.Machine.world c.args.m.now) w so_far.1 (subst (λ (k : Course). AllEnded k.script w) p (c.is_ended.ensures.0 (cc))) in
+    (ran.0, subst (λ (n : ℕ). Takings (g.M.Machine.takes x) (turns_of x.script n) c.args.m.now c.rounds.m) ran.1 so_far.2)

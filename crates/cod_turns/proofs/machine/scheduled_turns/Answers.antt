@@ -1,8 +1,8 @@
 use Rattle.std.proofs.Common.{◌≡◌, ℕ, ◌<◌, List, [], ◌∷◌, ◌++◌, length, get_or, take, ap, ◌∙◌, sym, subst, arith}
 use Rattle.std.proofs.lemmas.List.{take_more}
 use Rattle.cod_turns.specs.Turns.{Course}
-use Rattle.cod_turns.specs.Rounds.{TurnsWork}
-use Rattle.cod_turns.proofs.Rounding.{turns_push, turn_as}
+use Rattle.cod_turns.specs.Rounds.{Takings, TurnsWork}
+use Rattle.cod_turns.proofs.Rounding.{takings_push, turns_push, turn_as}
 use Rattle.cod_turns.proofs.machine.scheduled_turns.Goals as goal
 
 pub loop-i-preserved : goal.loop-i-preserved
@@ -27,8 +27,12 @@ loop-i-preserved g c =
     let test = c.loop-i-test.true in
     let first = ap length (c.schedule-turns.ensures) in
     let lt : i < length s = omega (arith, test, first) in
+    let took = subst (λ (k : Course). g.M.Machine.takes k (get_or r i 0) c.loop-i.m c.turn.new.self) p c.turn.ensures.takes in
+    let more = takings_push (g.M.Machine.takes x) (take i s) (get_or r i 0) c.args.m.now c.loop-i.m c.turn.new.self c.loop-i.invariant.took took in
+    let now = subst (λ (k : List ℕ). Takings (g.M.Machine.takes x) (take i s ++ get_or k i 0 ∷ []) c.args.m.now c.turn.new.self) e more in
     record {
       turned = subst (λ (k : List ℕ). TurnsWork x most k w v a b) (sym (take_more s i 0 lt)) here;
+      took = subst (λ (k : List ℕ). Takings (g.M.Machine.takes x) k c.args.m.now c.turn.new.self) (sym (take_more s i 0 lt)) now;
       course = c.turn.ensures.course ∙ p;
       most = c.turn.ensures.most ∙ q;
       turns = c.loop-i.invariant.turns;

@@ -1,0 +1,10 @@
+use Rattle.std.proofs.Common.{◌≡◌, Some, length, take}
+use Rattle.cod_stripe.specs.Sharing.{column_rooms, OwnedUpTo, Without}
+use Rattle.cod_stripe.proofs.sharing.adopt_columns.Given as goal
+
+abbrev pub invariant-columns : goal.invariant-columns
+invariant-columns g l = record {
+  owned : OwnedUpTo (Some l.shared.of) l.col l.fn.columns l.columns;
+  seat : Without (column_rooms (take l.col l.fn.columns)) l.fn.seat l.seat;
+  count : l.count ≡ length l.fn.columns;
+}
