@@ -10,7 +10,7 @@ use Rattle.cod_place.proofs.Rooms.{part}
 use Rattle.cod_seg.specs.Seg.{Seg}
 use Rattle.cod_segment.specs.Events.{Balances, rooms_of}
 use Rattle.cod_advance.specs.Worlds.{seg_at}
-use Rattle.cod_replay.specs.State.{all_rooms}
+use Rattle.cod_homes.specs.Building.{all_rooms}
 
 -- the rooms of the other segments
 abbrev pub rest_of : ℕ → List Seg → List Room

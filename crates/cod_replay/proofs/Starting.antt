@@ -30,12 +30,13 @@ use Rattle.cod_advance.specs.Worlds.{AreSegmentsOf, IsAtFirst, Places, seg_at}
 use Rattle.cod_advance.proofs.Lining.{first_is_moment}
 use Rattle.cod_advance.proofs.Slipping.{first_has_slips}
 use Rattle.cod_advance.proofs.Worldly.{start_is_start}
-use Rattle.cod_replay.specs.Building.{AreBuilt, ArePlays, IsBuilt, new_play}
+use Rattle.cod_homes.specs.Building.{all_rooms, AreBuilt, IsBuilt}
+use Rattle.cod_replay.specs.Building.{ArePlays, new_play}
 use Rattle.cod_replay.specs.Standing.{IsFresh, IsPlay, Stands}
-use Rattle.cod_replay.specs.State.{all_rooms, course_of, course_over, fenced, nobody, places_of, play_at, slips_of, State, world_in}
+use Rattle.cod_replay.specs.State.{course_of, course_over, fenced, nobody, places_of, play_at, slips_of, State, world_in}
 use Rattle.cod_replay.specs.Tasks.{Play, slip_in, task_at, task_of, whole_task}
 use Rattle.cod_replay.specs.declared.task.Task.TheVariants.{Done}
-use Rattle.cod_replay.proofs.Making.{rooms_are}
+use Rattle.cod_homes.proofs.Making.{rooms_are}
 use Rattle.cod_replay.proofs.Playing.{line_below, whole_begun}
 use Rattle.cod_replay.proofs.Turning.{sure}
 

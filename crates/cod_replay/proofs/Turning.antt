@@ -42,7 +42,8 @@ use Rattle.cod_advance.proofs.Totalling.{all_work_is_bounded, serving_is_progres
 use Rattle.cod_advance.proofs.Worldly.{elsewhere, failing_is_turn, happened, here, serving_is_turn, serving_keeps, setting_is_segments, ending_is_turn}
 use Rattle.cod_replay.specs.Serving.{done_if, failed, HasEvent, kill_by, played, served_as, Serves}
 use Rattle.cod_replay.specs.Standing.{beginning, IsBareOf, IsKept, IsPlay, Stands}
-use Rattle.cod_replay.specs.State.{all_rooms, course_of, moment_of, most_of, nobody, places_of, play_at, slips_of, State, work_of, world_in}
+use Rattle.cod_homes.specs.Building.{all_rooms}
+use Rattle.cod_replay.specs.State.{course_of, moment_of, most_of, nobody, places_of, play_at, slips_of, State, work_of, world_in}
 use Rattle.cod_replay.specs.Tasks.{due_of, gone_on, IsDated, Play, slip_in, task_of}
 use Rattle.cod_replay.specs.declared.task.Due.TheVariants as due
 use Rattle.cod_replay.specs.declared.task.Task.TheVariants.{Call, Done}

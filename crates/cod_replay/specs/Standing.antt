@@ -18,7 +18,8 @@ use Rattle.cod_turns.specs.Turns.{IsLineAt}
 use Rattle.cod_advance.specs.Histories.{Moment}
 use Rattle.cod_advance.specs.Moments.{AreSlips, IsMoment}
 use Rattle.cod_advance.specs.Worlds.{seg_at}
-use Rattle.cod_replay.specs.State.{all_rooms, course_of, moment_of, places_of, play_at, slips_of, State}
+use Rattle.cod_homes.specs.Building.{all_rooms}
+use Rattle.cod_replay.specs.State.{course_of, moment_of, places_of, play_at, slips_of, State}
 use Rattle.cod_replay.specs.Tasks.{AreDated, Play, task_at, task_of, whole_task}
 use Rattle.cod_replay.specs.declared.task.Task.{Task}
 use Rattle.cod_replay.specs.declared.task.Task.TheVariants.{Call, Fail}

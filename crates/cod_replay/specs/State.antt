@@ -1,16 +1,14 @@
 -- A replay as plain data.
 use Rattle.std.specs.Prelude.{ℕ, nat_lt, if◌then◌else◌, Bool, true, not, Option, List, [], slice_index_or}
-use Rattle.std.specs.List.{flat_map}
 use Rattle.cod_region.specs.Device.{AllRegions}
 use Rattle.cod_board.specs.declared.kill.Kill.{Kill}
 use Rattle.cod_chronicle.specs.Legal.{node_id}
 use Rattle.cod_claims.specs.Slips.{Paper}
-use Rattle.cod_place.specs.Room.{Room}
 use Rattle.cod_place.specs.Rooms.{Store}
 use Rattle.cod_script.specs.Script.{Script}
 use Rattle.cod_seg.specs.Seg.{Seg}
 use Rattle.cod_seg.specs.Sound.{is_frail}
-use Rattle.cod_segment.specs.Events.{kills_at, rooms_of}
+use Rattle.cod_segment.specs.Events.{kills_at}
 use Rattle.cod_turns.specs.Turns.{Course, World}
 use Rattle.cod_advance.specs.Histories.{Moment}
 use Rattle.cod_advance.specs.Worlds.{most_in, Places, work_in, world_of}
@@ -60,10 +58,6 @@ work_of s = work_in (course_of s) (kills_at s.kills) s.segs
 
 abbrev pub most_of : State → ℕ
 most_of s = most_in (course_of s)
-
--- the rooms of all segments
-abbrev pub all_rooms : List Seg → List Room
-all_rooms segs = flat_map rooms_of segs
 
 -- what holds of the regions of a shelf on so many nodes; as if on others, which a scenario does not have, they never failed
 abbrev pub fenced : (nodes : ℕ) → AllRegions → AllRegions

@@ -1,9 +1,7 @@
 //! The state of a replay, and its turns.
-ghost use Rattle.std.specs.Prelude.{◌≡◌, ◌+◌, ◌<◌, IfOk, IsSome, IsTrue, ◌↔◌, length, is_some, slice_index};
+ghost use Rattle.std.specs.Prelude.{◌≡◌, ◌+◌, ◌<◌, IfOk, IsTrue, ◌↔◌, length, is_some, slice_index};
 ghost use Rattle.cod_board.specs.Kills.{kill_of};
 ghost use Rattle.cod_place.specs.Rooms.{bytes_on};
-ghost use Rattle.cod_script.specs.Sound.{IsScenario};
-ghost use Rattle.cod_segment.specs.declared.asking.Outcome.{Outcome as Came};
 ghost use Rattle.cod_advance.specs.Histories.{Runs, Takes};
 ghost use Rattle.cod_advance.specs.Served.{turned_by};
 ghost use Rattle.cod_advance.specs.Worlds.{AreSegmentsOf, seg_at};
@@ -13,14 +11,16 @@ ghost use Rattle.cod_turns.specs.Turns.{AllEnded, board_clock, start, Turn};
 ghost use Rattle.cod_turns.specs.declared.turned.Turned.TheVariants as turned;
 ghost use Rattle.cod_replay.specs.Serving.{failed, Serves};
 ghost use Rattle.cod_replay.specs.Standing.{AreIdle, IsBareOf, IsFresh, Stands};
-ghost use Rattle.cod_replay.specs.State.{all_rooms, course_of, course_over, fenced, moment_of, most_of, play_at, work_of, world_in};
+ghost use Rattle.cod_homes.specs.Building.{all_rooms};
+ghost use Rattle.cod_replay.specs.State.{course_of, course_over, fenced, moment_of, most_of, play_at, work_of, world_in};
 ghost use Rattle.cod_replay.specs.Tasks.{due_of};
 ghost use Rattle.cod_replay.specs.declared.task.Due.TheVariants as due;
 
-use crate::building::{players, stripes};
+use crate::building::players;
 use crate::play::{Player, all_ended};
 use crate::task::Due;
 use cod_board::{Board, Kill, PlainBoard};
+use cod_homes::stripes;
 use cod_place::PlainPools;
 use cod_region::Shelf;
 use cod_repair::Bench;

@@ -1,5 +1,5 @@
 -- What a segment stands for, where it is taken in turns.
-use Rattle.std.specs.Prelude.{◌≡◌, ℕ, Bool, true, false, List, [], ◌∷◌, ◌++◌, Option, Some, None}
+use Rattle.std.specs.Prelude.{◌≡◌, ℕ, Bool, true, false, List, [], ◌∷◌, ◌++◌, Option, Some, None, length}
 use Rattle.std.specs.List.{flat_map}
 use Rattle.atomic_table.specs.Seated.{TableId}
 use Rattle.cod_types.specs.Limits.{Shape}
@@ -24,10 +24,11 @@ optional (Some n) = 1 ∷ n ∷ []
 abbrev pub shape_numbers : Shape → List ℕ
 shape_numbers g = g.version ∷ g.n ∷ g.k ∷ g.block ∷ g.update ∷ g.reserve ∷ g.unit ∷ g.alpha ∷ []
 
--- of which pools the rooms have badges
+-- Of which pools the rooms have badges. It can be read back wherever it stands: it begins with whether there are such pools, and the
+-- list of names in it with its length.
 abbrev pub pools_numbers : Option TableId → List ℕ
-pools_numbers None = []
-pools_numbers (Some of) = of.words ∷ of.slots ∷ of.views_name ∷ of.atom ∷ of.block ∷ of.offset ∷ of.slot_names
+pools_numbers None = 0 ∷ []
+pools_numbers (Some of) = 1 ∷ of.words ∷ of.slots ∷ of.views_name ∷ of.atom ∷ of.block ∷ of.offset ∷ length of.slot_names ∷ of.slot_names
 
 -- What no event changes: the number of nodes, the pools, the geometry, the segment, whether regions tell, and the nodes on which they
 -- may fail.

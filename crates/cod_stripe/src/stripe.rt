@@ -7,7 +7,7 @@ ghost use Rattle.cod_place.specs.Room.{Room};
 ghost use Rattle.cod_place.specs.Rooms.{AddUp};
 ghost use Rattle.cod_seg.specs.Next.{next_step, open_in};
 ghost use Rattle.cod_seg.specs.Seg.{col_at};
-ghost use Rattle.cod_seg.specs.Sound.{is_frail};
+ghost use Rattle.cod_seg.specs.Sound.{is_frail, Sound};
 ghost use Rattle.cod_seg.specs.Start.{IsNew};
 ghost use Rattle.cod_seg.specs.declared.next.Step.TheVariants as step;
 ghost use Rattle.cod_repair.specs.Columns.{line_of};
@@ -81,6 +81,13 @@ impl<R: Region> Stripe<R> {
         ensures { result ≡ line_of (record { 0 = self.now.site.segment }) col (col_at self.now.cols col) }
     {
         self.segment.columns.line(self.segment.segment, col)
+    }
+
+    /// It is sound, as it is between any two events. It does nothing.
+    pub fn sound(&self)
+        ensures { Sound self.now }
+    {
+        let _ = &self.segment;
     }
 
     /// How many updates of each block are committed.

@@ -1,22 +1,13 @@
--- What is known of a scenario that was read.
-use Rattle.std.proofs.Common.{◌≡◌, sym, subst, Ok, Err, take, zero, suc, ℕ, ◌+◌, ◌≤◌, Bool, true, false, cond, Option, Some, None, List, [], ◌∷◌, length, refl, ap, ◌∙◌, arith}
-use Rattle.std.specs.Prelude.{nat_lt, slice_index_or}
+-- What every scenario has.
+use Rattle.std.proofs.Common.{◌≡◌, subst, take, zero, suc, ℕ, ◌+◌, ◌≤◌, Option, Some, None, List, [], ◌∷◌, length, arith}
+use Rattle.std.specs.Prelude.{slice_index_or}
 use Rattle.std.specs.List.{cons_option, range_with_len, sum_by}
-use Rattle.std.proofs.lemmas.Bool.Decides.{nat_tests}
 use Rattle.cod_script.specs.declared.line.Line.{Line}
 use Rattle.cod_script.specs.Script.{Script, Ask, Client, ask_of, asks, nobody}
 use Rattle.cod_script.specs.Sound.{IsScenario}
-use Rattle.cod_scenario.specs.Reads.{reads, script_or}
-use Rattle.cod_scenario.specs.Judge.{text_says, to_end, lines_say}
-use Rattle.cod_scenario.specs.declared.refusal.Refusal.TheVariants.{TooLong}
-use Rattle.cod_words.specs.Words.{lines_of as lines_in}
 use Rattle.std.proofs.lemmas.List.Sums.{sum_by_more, sum_by-take-le}
 use Rattle.cod_tool.proofs.Sums.{sums_more}
-use Rattle.std.specs.Io.KnownBytes.{prepend_known, IsAtEnd}
-use Rattle.cod_tool.specs.Replays.{ReadsScenario}
 use Rattle.cod_tool.specs.Fit.{IsFit}
-
--- ---- what every scenario has
 
 option_short : (o : Option Ask) (l : List Ask) → length (cons_option o l) ≤ 1 + length l
 option_short None l = omega arith
@@ -54,18 +45,3 @@ fit_of x s =
       columns = s.columns;
       few_calls = omega (arith, calls, all, s.few_lines);
     }
-
--- a text of a scenario isn't too long
-pub short_text : (text : List ℕ) (x : Script) → reads text ≡ Ok x → length text ≤ 16777216
-unfolding text_says
-short_text text x e = by (nat_lt 16777216 (length text)) refl e where
-  by : (o : Bool) → nat_lt 16777216 (length text) ≡ o → script_or (cond o (Err (0, TooLong)) (to_end (length (lines_in text)) (lines_say [] 1 (lines_in text)))) ≡ Ok x → length text ≤ 16777216
-  by true t e = cc
-  by false t e = grind (arith, nat_tests)
-
--- a text that was read
-pub reads_as : (Holds : Script → Type 0) (left left' : Option (List ℕ)) (bytes text : List ℕ) (x : Script) → left ≡ prepend_known bytes left' → (length bytes ≤ 16777216 → IsAtEnd left') → text ≡ bytes
-    → reads text ≡ Ok x → Holds x → ReadsScenario Holds left left'
-reads_as Holds left left' bytes text x read end same is holds =
-    let whole : reads bytes ≡ Ok x = ap reads (sym same) ∙ is in
-    record { bytes = bytes; scenario = x; read = read; end = end (short_text bytes x whole); text = whole; holds = holds }

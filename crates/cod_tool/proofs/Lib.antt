@@ -1,10 +1,8 @@
 pub mod Fits
-pub mod Texts
 pub mod Rows
 pub mod Sums
 pub mod Plans
 pub mod Words
-pub mod Completeness
 pub mod Flushed
 pub mod Bare
 pub mod Runs

@@ -1,7 +1,6 @@
 pub mod Coefficients
 pub mod Commands
 pub mod Fit
-pub mod Refused
 pub mod Planned
 pub mod Ends
 pub mod Replays

@@ -1,16 +1,11 @@
 -- What a replay prints.
-use Rattle.std.specs.Prelude.{◌≡◌, ◌⊎◌, ℕ, ◌≤◌, Bool, true, false, List, length, Option, Some, None, Err}
-use Rattle.std.specs.Io.KnownBytes.{append_known, prepend_known, IsAtEnd}
+use Rattle.std.specs.Prelude.{◌≡◌, ℕ, Bool, true, false, List, Option, Some, None}
 use Rattle.cod_advance.specs.Histories.{Moment}
 use Rattle.cod_region.specs.Device.{AllRegions}
 use Rattle.cod_script.specs.Script.{Script}
 use Rattle.cod_script.specs.Text.{canonical_text}
 use Rattle.cod_gen.specs.Generated.{generated}
-use Rattle.cod_scenario.specs.declared.refusal.Refusal.{Refusal}
-use Rattle.cod_scenario.specs.Reads.{reads, IsTextOf}
-use Rattle.cod_tool.specs.Refused.{refusal_text}
-use Rattle.cod_types.specs.Faults.{Rose}
-use Rattle.cod_print.specs.Puts.{TakesFront}
+use Rattle.cod_shell.specs.Reading.{HasScenario, ReadsScenario, RefusesText}
 use Rattle.cod_tool.specs.declared.command.Command.{Command}
 use Rattle.cod_tool.specs.declared.command.Command.TheVariants as command
 use Rattle.cod_tool.specs.declared.command.Purpose.{Purpose}
@@ -25,39 +20,6 @@ pub record Ran (on : AllRegions) (x : Script) (text_of : Script → Moment → L
   pub end : Moment
   pub run : IsEnd on x end
   pub printed : Took (text_of x end)
-
--- the bytes read, to the source's end, are the text of a scenario of which this holds
-pub record ReadsScenario (Holds : Script → Type 0) (left left' : Option (List ℕ)) : Type 0 where
-  pub bytes : List ℕ
-  pub scenario : Script
-  pub read : left ≡ prepend_known bytes left'
-  pub end : IsAtEnd left'
-  pub text : IsTextOf bytes scenario
-  pub holds : Holds scenario
-
--- at most so many bytes were read
-abbrev pub ReadsAtMost : ℕ → (left left' : Option (List ℕ)) → Type 0
-ReadsAtMost most left left' = (bytes : List ℕ) × (left ≡ prepend_known bytes left') × (length bytes ≤ most)
-
--- the text was taken whole
-abbrev pub TakesAll : (taken taken' : Option (List ℕ)) (text : List ℕ) → Type 0
-TakesAll taken taken' text = taken' ≡ append_known taken text
-
--- a line was taken whole, or a front of it where the sink failed
-abbrev pub TakesLine : (taken taken' : Option (List ℕ)) (faults faults' : ℕ) (line : List ℕ) → Type 0
-TakesLine taken taken' faults faults' line = TakesAll taken taken' line ⊎ (TakesFront taken taken' line × Rose faults faults')
-
--- The bytes read, to the source's end or the first 2^24 + 1, are no text of a scenario, and the first line that is refused was
--- printed, with the reason.
-pub record RefusesText (left left' : Option (List ℕ)) (Took : List ℕ → Type 0) : Type 0 where
-  pub bytes : List ℕ
-  pub read : left ≡ prepend_known bytes left'
-  pub most : length bytes ≤ 16777217
-  pub end : length bytes ≤ 16777216 → IsAtEnd left'
-  pub line : ℕ
-  pub why : Refusal
-  pub refused : reads bytes ≡ Err (line, why)
-  pub printed : Took (refusal_text line why)
 
 -- What was done with a scenario. `Took` says how a text was taken.
 abbrev pub Serves : (on : AllRegions) → Purpose → (Took : List ℕ → Type 0) → Script → Type 0
@@ -83,7 +45,7 @@ Refuses (command.Load number) left left' Took = ⊥
 
 -- A command has all that it wants of its input: it reads no scenario, or what the source has is the text of one.
 abbrev pub CanServe : Command → (left : Option (List ℕ)) → Type 0
-CanServe (command.Scenario asked) left = (bytes : List ℕ) × (x : Script) × (left ≡ Some bytes) × IsTextOf bytes x
+CanServe (command.Scenario asked) left = HasScenario left
 CanServe (command.Code n k) left = Unit {0}
 CanServe (command.Gen number) left = Unit {0}
 CanServe (command.Load number) left = Unit {0}

@@ -6,10 +6,10 @@ ghost use Rattle.cod_print.specs.Puts.{Puts};
 ghost use Rattle.cod_tool.specs.Fit.{calls_of};
 ghost use Rattle.cod_tool.specs.Planned.{check_text};
 
-use crate::pieces::{Count, counts};
 use cod_io::Sink;
 use cod_print::WriteFault;
 use cod_script::{Line, Scenario, What};
+use cod_shell::pieces::{Count, counts};
 
 /// How many segment calls a line asks for.
 fn calls_in(line: &Line) -> u64

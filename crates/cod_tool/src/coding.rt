@@ -7,10 +7,10 @@ ghost use Rattle.cod_text.specs.Printed.{line_of};
 ghost use Rattle.cod_print.specs.Puts.{Puts};
 ghost use Rattle.cod_tool.specs.Coefficients.{coefficient_word, coefficients_text, row_text};
 
-use crate::pieces::numbered;
 use cod_code::Code;
 use cod_io::Sink;
 use cod_print::{WriteFault, text};
+use cod_shell::pieces::numbered;
 
 /// The two digits of a byte.
 fn digits(byte: u8) -> [u8; 2]

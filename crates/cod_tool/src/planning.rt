@@ -9,11 +9,11 @@ ghost use Rattle.cod_print.specs.Puts.{Puts};
 ghost use Rattle.cod_tool.specs.Planned;
 ghost use Rattle.cod_tool.specs.Planned.{first_node_line, nodes_text, placement_text};
 
-use crate::pieces::{Count, counts, numbered};
 use cod_io::Sink;
 use cod_place::home;
 use cod_print::{WriteFault, text};
 use cod_script::Scenario;
+use cod_shell::pieces::{Count, counts, numbered};
 use cod_types::SegId;
 
 /// The bytes that a column takes on a node at first.

@@ -2,10 +2,10 @@
 ghost use Rattle.std.specs.Prelude.{IfOk};
 ghost use Rattle.cod_tool.specs.Ends.{HasRun};
 
-use crate::within::all_fit;
 use cod_region::Shelf;
 use cod_replay::Replay;
 use cod_script::Scenario;
+use cod_shell::within::all_fit;
 use cod_types::OutOfMemory;
 use std::alloc::Global;
 

@@ -8,37 +8,25 @@ ghost use Rattle.cod_tool.specs.Coefficients.{coefficients_text};
 ghost use Rattle.cod_tool.specs.Commands.{command_of};
 ghost use Rattle.cod_tool.specs.Fit.{IsFit};
 ghost use Rattle.cod_tool.specs.Ends.{run_summary, run_text};
-ghost use Rattle.cod_tool.specs.Refused.{refusal_text};
 ghost use Rattle.cod_tool.specs.Planned.{check_text, placement_text};
-ghost use Rattle.cod_tool.specs.Replays.{CanServe, Does, Ran, ReadsAtMost, ReadsScenario, Refuses, RefusesText, Serves, TakesAll, TakesLine};
+ghost use Rattle.cod_shell.specs.Reading.{ReadsAtMost, ReadsScenario, RefusesText};
+ghost use Rattle.cod_shell.specs.Taking.{TakesAll, TakesLine};
+ghost use Rattle.cod_tool.specs.Replays.{CanServe, Does, Ran, Refuses, Serves};
 ghost use Rattle.cod_tool.specs.Replays.{reads_source, takes_memory};
 
 use crate::command::{Command, Purpose};
-use crate::input::{InputError, all};
 use crate::running::played;
-use crate::status::{BAD_WORDS, DONE, NO_MEMORY, REFUSED, SINK_FAILED, SOURCE_FAILED};
-use crate::{checking, coding, ending, planning, refusing};
+use crate::{checking, coding, ending, planning};
 use cod_code::Code;
 use cod_gen::generate;
 use cod_io::{Sink, Source};
 use cod_region::Shelf;
-use cod_scenario::{Refusal, ScenarioError};
+use cod_scenario::ScenarioError;
 use cod_script::Scenario;
+use cod_shell::input::{InputError, all};
+use cod_shell::refusing::{refuse, refuse_text};
+use cod_shell::{BAD_WORDS, DONE, NO_MEMORY, REFUSED, SINK_FAILED, SOURCE_FAILED};
 use std::alloc::Global;
-
-/// Prints a line that says why nothing was done. A sink that fails changes nothing.
-fn refuse<W: Sink>(sink: &mut W, line: &[u8])
-    ensures { TakesLine (W.taken sink.old) (W.taken sink.new) (W.fault_count sink.old) (W.fault_count sink.new) line.now }
-{
-    let _ = cod_print::text(sink, line);
-}
-
-/// Prints why a text is no scenario. A sink that fails changes nothing.
-fn refuse_text<W: Sink>(sink: &mut W, line: u32, why: Refusal)
-    ensures { TakesLine (W.taken sink.old) (W.taken sink.new) (W.fault_count sink.old) (W.fault_count sink.new) (refusal_text line why) }
-{
-    let _ = refusing::print(sink, line, why);
-}
 
 /// Replays a scenario and prints what happened.
 fn replay<W: Sink, H: Shelf + Drop>(alloc: Global, scenario: Scenario, shelf: H, sink: &mut W) -> u8

@@ -1,34 +1,18 @@
 //! All that the program does.
-ghost use Rattle.std.specs.Prelude.{◌≡◌, ◌⊎◌, ◌↔◌, ◌≤◌, true, false, None, Some, map, codes, string_bytes};
+ghost use Rattle.std.specs.Prelude.{◌≡◌, ◌⊎◌, ◌↔◌, true, false, None, Some, map, codes, string_bytes};
 ghost use Rattle.cod_types.specs.Faults.{Rose};
 ghost use Rattle.cod_print.specs.Puts.{TakesFront};
 ghost use Rattle.cod_tool.specs.Commands.{command_of};
-ghost use Rattle.cod_tool.specs.Replays.{CanServe, Does, ReadsAtMost, Refuses, TakesAll, TakesLine, reads_source, takes_memory};
+ghost use Rattle.cod_shell.specs.Reading.{ReadsAtMost};
+ghost use Rattle.cod_shell.specs.Taking.{TakesAll, TakesLine};
+ghost use Rattle.cod_tool.specs.Replays.{CanServe, Does, Refuses, reads_source, takes_memory};
 
 use crate::serving::perform;
-use crate::status::{BAD_WORDS, DONE, NO_MEMORY, REFUSED, SINK_FAILED, SOURCE_FAILED};
 use cod_io::{Sink, Source};
 use cod_region::Shelf;
+use cod_shell::finishing::finish;
+use cod_shell::{BAD_WORDS, DONE, NO_MEMORY, REFUSED, SINK_FAILED, SOURCE_FAILED};
 use std::alloc::Global;
-
-/// The status after what was printed has been brought to where it goes. Where nothing was printed, the sink is let alone.
-fn finish<W: Sink>(sink: &mut W, status: u8) -> u8
-    ensures same { W.taken sink.new ≡ W.taken sink.old }
-    ensures later { W.fault_count sink.old ≤ W.fault_count sink.new }
-    ensures done { result ≡ DONE → (status ≡ DONE) × (W.arrived sink.new ≡ W.taken sink.new) }
-    ensures kept { (result ≡ SINK_FAILED → ⊥) → result ≡ status }
-    ensures other { (status ≡ DONE → ⊥) → result ≡ status }
-    ensures failed { result ≡ SINK_FAILED → (status ≡ SINK_FAILED) ⊎ ((status ≡ DONE) × Rose (W.fault_count sink.old) (W.fault_count sink.new)) }
-    ensures nothing { (status ≡ SOURCE_FAILED) ⊎ (status ≡ NO_MEMORY) → W.fault_count sink.new ≡ W.fault_count sink.old }
-{
-    if status == SOURCE_FAILED || status == NO_MEMORY {
-        return status;
-    }
-    match sink.flush() {
-        Err(_) if status == DONE => SINK_FAILED,
-        _ => status,
-    }
-}
 
 /// Does all that the program does, over regions of this shelf: `words` are those after its name. It always returns.
 ///

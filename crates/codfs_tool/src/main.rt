@@ -1,4 +1,5 @@
-//! Replays, checks or plans a scenario, or prints the coefficients of a code, or the scenario that a number gives.
+//! Replays, sums up, checks or plans a scenario, or prints the coefficients of a code, the scenario that a number gives, or the
+//! summary of its run.
 #![tactic(auto)]
 
 use cod_tool::{NO_MEMORY, over};

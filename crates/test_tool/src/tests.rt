@@ -14,13 +14,16 @@ const FIRST_PRINTED: &str =
 const PARITY: &str =
     "codfs 1\nnodes 5 1000\ncode 4 2\nblock 1\nupdate 1\nreserve 40\nunit 1\nalpha 5000\nsegment s\nclient a\nput s 0102\nwrite s 0 05\nread s 0 2\nend\n";
 
-/// The most calls of the sink that a command of these tests makes, and one more.
-const CALLS: u64 = 121;
+const PARITY_PRINTED: &str =
+    "1 s a 0 put 0102 -> done\n2 s a 1 write 0 05 -> done\n3 s a 2 read 0 2 -> bytes 0502\nlayout s 0 0 up len 1 reads 2 writes 2\nlayout s 1 1 up len 1 reads 1 writes 1\nlayout s 2 2 up len 41 used 20 avg 10000 reads 0 writes 2\nlayout s 3 3 up len 41 used 20 avg 10000 reads 0 writes 2\nnode 0 up taken 1 free 999\nnode 1 up taken 1 free 999\nnode 2 up taken 41 free 959\nnode 3 up taken 41 free 959\nnode 4 up taken 0 free 1000\n";
 
-/// The status of a command over the first scenario, where the sink fails at this call, or 100 where something else than a front
-/// of `want` was printed.
+/// More calls of the sink than a command of these tests makes.
+const CALLS: u64 = 300;
+
+/// The status of a command over the scenario with parity columns, where the sink fails at this call, or 100 where something else
+/// than a front of `want` was printed.
 fn with_fault(alloc: Global, words: &[String], call: u64, want: &str) -> Result<u8, Fail> {
-    let mut source = MemSource::new(alloc, FIRST.as_bytes(), 4096, &[])?;
+    let mut source = MemSource::new(alloc, PARITY.as_bytes(), 4096, &[])?;
     let mut sink = MemSink::new(alloc, 1000, &[call])?;
     let status = tool(alloc, words, &mut source, &mut sink, MemShelf::new());
     let whole = sink.bytes() == want.as_bytes();
@@ -32,27 +35,29 @@ fn with_fault(alloc: Global, words: &[String], call: u64, want: &str) -> Result<
     }
 }
 
-/// Whichever call of the source or the sink fails, and wherever the sink is full, the status says so, and a front was taken.
+/// Whichever call of a source that hands out one byte at a time, or of the sink, fails, and wherever the sink is full, the status says
+/// so, and a front was taken.
 #[test]
 fn streams_that_fail(rt: HostRuntime) -> Result<(), Fail> {
     let alloc = rt.alloc();
     let words = [String::from_str(alloc, "replay")?];
-    for call in [0u64, 1, 2] {
-        let mut source = MemSource::new(alloc, FIRST.as_bytes(), 4096, &[call])?;
+    let reads = PARITY.len() as u64 + 1;
+    for call in 0..=reads {
+        let mut source = MemSource::new(alloc, PARITY.as_bytes(), 1, &[call])?;
         let mut sink = MemSink::new(alloc, 1000, &[])?;
         let status = tool(alloc, &words, &mut source, &mut sink, MemShelf::new());
-        assert!(rt; status == if call < 2 { 4 } else { 0 });
-        assert!(rt; call == 2 || sink.bytes().is_empty());
+        assert!(rt; status == if call < reads { 4 } else { 0 });
+        assert!(rt; sink.bytes().is_empty() == (status == 4));
     }
-    let mut failed = 0;
+    let mut failing = 0;
     for call in 0..CALLS {
-        let status = with_fault(alloc, &words, call, FIRST_PRINTED)?;
-        assert!(rt; status == 5 || status == 0);
+        let status = with_fault(alloc, &words, call, PARITY_PRINTED)?;
+        assert!(rt; status == 0 || status == 5 && failing == call);
         if status == 5 {
-            failed = call;
+            failing = call + 1;
         }
     }
-    assert!(rt; 20 < failed && failed < CALLS - 1);
+    assert!(rt; 100 < failing && failing < CALLS);
     for room in [0u32, 37, 200] {
         let mut source = MemSource::new(alloc, FIRST.as_bytes(), 4096, &[])?;
         let mut sink = MemSink::new(alloc, room, &[])?;
@@ -113,38 +118,5 @@ fn streams_of_std_and_regions(rt: HostRuntime) -> Result<(), Fail> {
         )?;
         assert!(rt; sink.bytes() == want.as_bytes());
     }
-    Ok(())
-}
-
-/// Whether a replay of the scenario with parity columns, in which the region on node 0 fails at this call, ends well with a text
-/// that begins so.
-fn with_device_fault(alloc: Global, call: u64, want: &str) -> Result<bool, Fail> {
-    let words = [String::from_str(alloc, "replay")?];
-    let mut source = MemSource::new(alloc, PARITY.as_bytes(), 4096, &[])?;
-    let mut sink = MemSink::new(alloc, 1000, &[])?;
-    let shelf = FaultyShelf::new(alloc, &[(NodeId(0), call)])?;
-    let status = tool(alloc, &words, &mut source, &mut sink, shelf);
-    Ok(status == 0 && sink.bytes().starts_with(want.as_bytes()))
-}
-
-/// Whichever call of a device fails, each call is answered as if none had: the column is marked, and its bytes come from the others.
-#[test]
-fn devices_that_fail(rt: HostRuntime) -> Result<(), Fail> {
-    let alloc = rt.alloc();
-    let put =
-        "1 s = down 0 0 fault 1\n2 s a 0 put 0102 -> done\n3 s a 1 write 0 05 -> done\n4 s a 2 read 0 2 -> bytes 0502\nlayout s 0 0 down len 1 reads 0 writes 1\n";
-    assert!(rt; with_device_fault(alloc, 0, put)?);
-    let begin =
-        "1 s a 0 put 0102 -> done\n2 s = down 0 0 fault 1\n3 s a 1 write 0 05 -> done\n4 s a 2 read 0 2 -> bytes 0502\nlayout s 0 0 down len 1 reads 1 writes 1\nlayout s 1 1 up len 1 reads 3 writes 1\nlayout s 2 2 up len 41 used 20 avg 10000 reads 2 writes 2\nlayout s 3 3 up len 41 used 20 avg 10000 reads 0 writes 2\nnode 0 up taken 1 free 999\n";
-    assert!(rt; with_device_fault(alloc, 1, begin)?);
-    let step =
-        "1 s a 0 put 0102 -> done\n2 s = down 0 0 fault 1\n3 s a 1 write 0 05 -> done\n4 s a 2 read 0 2 -> bytes 0502\nlayout s 0 0 down len 1 reads 1 writes 2\n";
-    assert!(rt; with_device_fault(alloc, 2, step)?);
-    let read =
-        "1 s a 0 put 0102 -> done\n2 s a 1 write 0 05 -> done\n3 s = down 0 0 fault 1\n4 s a 2 read 0 2 -> bytes 0502\nlayout s 0 0 down len 1 reads 2 writes 2\n";
-    assert!(rt; with_device_fault(alloc, 3, read)?);
-    let none =
-        "1 s a 0 put 0102 -> done\n2 s a 1 write 0 05 -> done\n3 s a 2 read 0 2 -> bytes 0502\nlayout s 0 0 up len 1 reads 2 writes 2\n";
-    assert!(rt; with_device_fault(alloc, 4, none)?);
     Ok(())
 }

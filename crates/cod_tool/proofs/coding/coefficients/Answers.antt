@@ -7,7 +7,7 @@ use Rattle.cod_print.specs.Puts.{TakesFront}
 use Rattle.cod_print.proofs.Fronts.{took_front, took_more}
 use Rattle.cod_tool.specs.Coefficients.{coefficient_word}
 use Rattle.cod_tool.proofs.Rows.{coefficient}
-use Rattle.cod_tool.proofs.Texts.{texts_split, texts_more}
+use Rattle.cod_shell.proofs.Texts.{texts_split, texts_more}
 use Rattle.cod_tool.proofs.coding.coefficients.Goals as goal
 
 pub returns-in_err-coefficient-clause-text : goal.returns-in_err-coefficient-clause-text

@@ -3,7 +3,7 @@ use Rattle.std.specs.List.{flat_map, range_with_len}
 use Rattle.std.proofs.lemmas.Result.{err_from_is_err_and}
 use Rattle.cod_print.proofs.Fronts.{took_front, took_more}
 use Rattle.cod_tool.specs.Coefficients.{row_text}
-use Rattle.cod_tool.proofs.Texts.{texts_split_from, texts_more_from}
+use Rattle.cod_shell.proofs.Texts.{texts_split_from, texts_more_from}
 use Rattle.cod_tool.proofs.coding.rows.Goals as goal
 
 pub returns-in_err-row-clause-text : goal.returns-in_err-row-clause-text

@@ -3,16 +3,15 @@ use Rattle.std.specs.List.{flat_map, range_with_len}
 use Rattle.std.proofs.lemmas.Result.{err_from_is_err_and}
 use Rattle.cod_print.proofs.Fronts.{took_front, took_more}
 use Rattle.cod_script.specs.Script.{Script}
-use Rattle.cod_tool.specs.Ends.{node_line}
-use Rattle.cod_replay.specs.State.{moment_of}
-use Rattle.cod_tool.proofs.Texts.{texts_split, texts_more}
+use Rattle.cod_shell.specs.Lines.{node_line}
+use Rattle.cod_shell.proofs.Texts.{texts_split, texts_more}
 use Rattle.cod_tool.proofs.ending.node_lines.Goals as goal
 
 pub returns-in_err-node_line-clause-text : goal.returns-in_err-node_line-clause-text
 returns-in_err-node_line-clause-text g c =
     let p = err_from_is_err_and c.from_residual.result c.from_residual.ensures.1 in
     let s = c.args.replay.now in
-    let f = node_line s.script (moment_of s) in
+    let f = node_line s.script s.kills s.segs in
     let n = s.script.nodes in
     let i = c.loop-node.node in
     rw p.1 (took_front _ _ _ (flat_map f (range_with_len 0 n)) (flat_map f (range_with_len 0 i)) _ (flat_map f (range_with_len (i + 1) (n - (i + 1)))) c.loop-node.invariant.taken
@@ -22,6 +21,6 @@ pub loop-node-preserved : goal.loop-node-preserved
 loop-node-preserved g c =
     let s = c.args.replay.now in
     record {
-      taken = rw (texts_more (node_line s.script (moment_of s)) c.loop-node.node) (took_more _ _ _ _ _ c.loop-node.invariant.taken c.in_ok-node_line.ensures.text);
+      taken = rw (texts_more (node_line s.script s.kills s.segs) c.loop-node.node) (took_more _ _ _ _ _ c.loop-node.invariant.taken c.in_ok-node_line.ensures.text);
       same = c.in_ok-node_line.ensures.cause.kept ∙ c.loop-node.invariant.same;
     }

@@ -6,7 +6,7 @@ use Rattle.cod_types.specs.Columns.{home_of}
 use Rattle.cod_types.specs.Limits.{Shape}
 use Rattle.cod_print.specs.Puts.{TakesFront}
 use Rattle.cod_print.proofs.Fronts.{took_front, took_more}
-use Rattle.cod_tool.proofs.Texts.{texts_split, texts_more}
+use Rattle.cod_shell.proofs.Texts.{texts_split, texts_more}
 use Rattle.cod_tool.proofs.planning.homes.Goals as goal
 
 pub returns-in_err-numbered-clause-text : goal.returns-in_err-numbered-clause-text

@@ -3,7 +3,7 @@ use Rattle.std.specs.List.{flat_map, range_with_len}
 use Rattle.std.proofs.lemmas.Result.{err_from_is_err_and}
 use Rattle.cod_print.proofs.Fronts.{took_front, took_more}
 use Rattle.cod_tool.specs.Planned.{first_node_line}
-use Rattle.cod_tool.proofs.Texts.{texts_split, texts_more}
+use Rattle.cod_shell.proofs.Texts.{texts_split, texts_more}
 use Rattle.cod_tool.proofs.planning.node_lines.Goals as goal
 
 pub returns-in_err-node_line-clause-text : goal.returns-in_err-node_line-clause-text

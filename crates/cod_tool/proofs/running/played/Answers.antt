@@ -1,6 +1,6 @@
 use Rattle.std.proofs.Common.{List, subst}
 use Rattle.cod_seg.specs.Seg.{Seg}
-use Rattle.cod_tool.specs.Ends.{AllFit}
+use Rattle.cod_shell.specs.Numbers.{AllFit}
 use Rattle.cod_tool.proofs.Runs.{has_run}
 use Rattle.cod_tool.proofs.running.played.Goals as goal
 

@@ -1,7 +1,7 @@
 use Rattle.std.proofs.Common.{◌≡◌, ◌∙◌, sym, subst}
 use Rattle.cod_tool.specs.declared.command.Command.TheVariants as command
+use Rattle.cod_shell.proofs.TextRead.{not_refused, two_left}
 use Rattle.cod_tool.specs.Replays.{CanServe}
-use Rattle.cod_tool.proofs.Completeness.{not_refused, two_left}
 use Rattle.cod_tool.proofs.serving.perform.Goals as goal
 
 pub returns-in-Some-Scenario-clause-complete : goal.returns-in-Some-Scenario-clause-complete
@@ -11,6 +11,6 @@ returns-in-Some-Scenario-clause-complete g c other is can source sink =
     let same : other ≡ command.Scenario c.in-Some-Scenario.purpose = cc in
     let mine : CanServe (command.Scenario c.in-Some-Scenario.purpose) left = subst (λ k. CanServe k left) same can in
     two_left c.serve_text.result c.serve_text.ensures.statuses
-    (λ three. not_refused c.in-Some-Scenario.purpose left _ _ mine (c.serve_text.ensures.refused three))
+    (λ three. not_refused left _ _ mine (c.serve_text.ensures.refused three))
     (λ four. source (c.serve_text.ensures.source_failed four))
     (λ five. sink (c.serve_text.ensures.sink_failed five))

@@ -1,6 +1,6 @@
 use Rattle.cod_print.specs.Puts.{TakesFront}
 use Rattle.cod_tool.specs.Ends.{run_text}
-use Rattle.cod_tool.specs.Replays.{TakesAll}
+use Rattle.cod_shell.specs.Taking.{TakesAll}
 use Rattle.cod_tool.proofs.Runs.{ran_of}
 use Rattle.cod_tool.proofs.serving.replay.Goals as goal
 

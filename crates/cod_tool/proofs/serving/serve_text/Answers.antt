@@ -1,5 +1,6 @@
 use Rattle.cod_scenario.proofs.TextSound.{text_is_scenario}
-use Rattle.cod_tool.proofs.Fits.{fit_of, reads_as}
+use Rattle.cod_shell.proofs.TextRead.{reads_as}
+use Rattle.cod_tool.proofs.Fits.{fit_of}
 use Rattle.cod_tool.proofs.serving.serve_text.Goals as goal
 
 pub serve-requires : goal.serve-requires

@@ -3,7 +3,7 @@ use Rattle.cod_seg.specs.Seg.{Seg}
 use Rattle.cod_print.specs.Puts.{TakesFront}
 use Rattle.cod_text.specs.Summary.{summary_text}
 use Rattle.cod_tool.specs.Ends.{run_summary}
-use Rattle.cod_tool.specs.Replays.{TakesAll}
+use Rattle.cod_shell.specs.Taking.{TakesAll}
 use Rattle.cod_tool.proofs.Runs.{ran_of}
 use Rattle.cod_tool.proofs.serving.summarize.Goals as goal
 

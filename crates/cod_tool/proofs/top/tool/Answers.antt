@@ -1,6 +1,7 @@
 -- What was done before the flush, said of the state behind it.
 use Rattle.std.proofs.Common.{sym, ◌∙◌, inl, inr, arith}
-use Rattle.cod_tool.proofs.Flushed.{does_as, front_later, line_later, refuses_as, whole_is_front}
+use Rattle.cod_shell.proofs.Taken.{front_later, line_later, whole_is_front}
+use Rattle.cod_tool.proofs.Flushed.{does_as, refuses_as}
 use Rattle.cod_tool.proofs.top.tool.Goals as goal
 
 pub returns-clause-refused : goal.returns-clause-refused

@@ -1,0 +1,12 @@
+pub mod Accounting
+pub mod Kills
+pub mod Holds
+pub mod Doing
+pub mod Failing
+pub mod Sharing
+pub mod Works
+pub mod Joins
+pub mod Choosing
+pub mod Causing
+pub mod Ending
+pub mod Owing

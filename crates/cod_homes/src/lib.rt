@@ -1,0 +1,6 @@
+//! The segments of a scenario, each with its columns at home.
+#![tactic(auto)]
+
+mod building;
+
+pub use building::stripes;

@@ -1,0 +1,3 @@
+pub mod Adopting
+pub mod Starting
+pub mod Splitting

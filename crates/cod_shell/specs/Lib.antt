@@ -1,0 +1,5 @@
+pub mod Lines
+pub mod Numbers
+pub mod Refused
+pub mod Taking
+pub mod Reading
