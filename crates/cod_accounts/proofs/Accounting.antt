@@ -17,7 +17,7 @@ use Rattle.cod_chronicle.specs.Said.{stamp_of, clock_of, last_stamp, next_stamp}
 use Rattle.cod_chronicle.proofs.Growth.{clock_of-push}
 use Rattle.cod_seats.specs.Totals.{times, once_below, range}
 use Rattle.cod_seats.proofs.Totals.{times-append, times-range}
-use Rattle.cod_chronicle.specs.Event.{Kill, Kills, clock_at, raised, Stamped, Request, Setting, IsSeenReply, IsSeenWhy, Tells, Event}
+use Rattle.cod_chronicle.specs.Event.{NodeKill, Kills, clock_at, raised, Stamped, Request, Setting, IsSeenReply, IsSeenWhy, Tells, Event}
 use Rattle.cod_accounts.specs.Accounts.{StampIn, Comes, Springs, HasCause, Account, At, Accounts, Knows}
 
 -- a list is empty, or has a last element
@@ -44,7 +44,7 @@ comes_raised kills t u h (Up stamp col node) c = c
 comes_raised kills t u h (Move stamp col node) c = c
 comes_raised kills t u h (Down stamp col node (Fault count)) c = c
 comes_raised kills t u h (Down stamp col node (Killed line)) c = by (kills node.0) refl where
-  by : (o : Option Kill) → kills node.0 ≡ o → Comes kills t h (max u (clock_at o))
+  by : (o : Option NodeKill) → kills node.0 ≡ o → Comes kills t h (max u (clock_at o))
   by None e = comes_is kills t h u (max u 0) (omega arith) c
   by (Some k) e = elim (cases_lt u k.clock) [
     | inl lt ↦ inr (inr (node.0, k, e, (let m : k.clock ≡ max u k.clock = omega arith in m)))

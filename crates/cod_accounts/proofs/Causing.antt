@@ -4,7 +4,7 @@ use Rattle.std.specs.Prelude.{slice_get, option_map}
 use Rattle.std.specs.List.{AllByRecursion}
 use mathlib.Core.List.{IsPrefix}
 use Rattle.cod_chronicle.specs.declared.entry.Entry.{Entry}
-use Rattle.cod_chronicle.specs.Event.{Kill as EventKill}
+use Rattle.cod_chronicle.specs.Event.{NodeKill}
 use Rattle.cod_chronicle.specs.Said.{calls_by}
 use Rattle.cod_chronicle.specs.Standing.{OpenCalls}
 use Rattle.cod_board.specs.declared.kill.Kill.{Kill}
@@ -27,7 +27,7 @@ known_on_board : {T : Type 0} (passes : List (Pass T)) (kills : List (Option Kil
 known_on_board passes kills nodes c p board is node k e =
     let seen = seen_of nodes node p.board.seen k e in
     let on = board.seen c p node seen.kill is (known_has node seen.kill p.board.seen seen.is) in
-    ap (option_map plain_kill) on ∙ ap (λ (q : EventKill). Some q) seen.plain
+    ap (option_map plain_kill) on ∙ ap (λ (q : NodeKill). Some q) seen.plain
 
 module _ {T : Type 0} (name : T → List ℕ) (log : T → List Entry) (opened : T → OpenCalls) (x : Course) (passes : List (Pass T)) (values : List T)
     (works : (c : ℕ) (p : Pass T) → slice_get passes c ≡ Some p → HasWorked log opened x p) (segments : (s : ℕ) (now : T) → slice_get values s ≡ Some now → ClosedSegment name log opened x passes s now) where

@@ -16,7 +16,7 @@ use Rattle.cod_types.specs.declared.reasons.Why.TheVariants as why
 use Rattle.cod_chronicle.specs.declared.entry.Entry.{Entry}
 use Rattle.cod_chronicle.specs.declared.entry.Entry.TheVariants.{Call, Down, Up, Move}
 use Rattle.cod_chronicle.specs.declared.entry.Cause.TheVariants.{Killed, Fault}
-use Rattle.cod_chronicle.specs.Event.{Kill as EventKill, IsSeenReply, IsSeenWhy}
+use Rattle.cod_chronicle.specs.Event.{NodeKill, IsSeenReply, IsSeenWhy}
 use Rattle.cod_chronicle.specs.Laws.{AreOwn}
 use Rattle.cod_chronicle.specs.Legal.{IsLegal}
 use Rattle.cod_chronicle.specs.Order.{Placed, stamp_at, place, placed}
@@ -162,7 +162,7 @@ module _ {T : Type 0} (name : T → List ℕ) (log : T → List Entry) (opened :
   -- ---- kills
 
   -- a kill that a pass knows is one that a pass made by a `fail` line of its own, and its clock is that of an entry, or 0
-  record Cause (node : ℕ) (k : EventKill) : Type 0 where
+  record Cause (node : ℕ) (k : NodeKill) : Type 0 where
     made : IsMade x.script hs own node k
     clock : IsClock k.clock
 
@@ -178,7 +178,7 @@ module _ {T : Type 0} (name : T → List ℕ) (log : T → List Entry) (opened :
     by true = c
     by false = inl refl
 
-  cause_of : (c : ℕ) (p : Pass T) (node : ℕ) (k : EventKill) → slice_get passes c ≡ Some p → kills_at (kills_in x.script.nodes p.board.seen) node ≡ Some k → Cause node k
+  cause_of : (c : ℕ) (p : Pass T) (node : ℕ) (k : NodeKill) → slice_get passes c ≡ Some p → kills_at (kills_in x.script.nodes p.board.seen) node ≡ Some k → Cause node k
   cause_of c p node k is e =
       let seen = seen_of x.script.nodes node p.board.seen k e in
       let kill : Kill = seen.kill in

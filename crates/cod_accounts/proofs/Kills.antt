@@ -5,7 +5,7 @@ use Rattle.std.proofs.lemmas.Bool.{cases_lt}
 use Rattle.std.proofs.lemmas.List.FromFn.{get_or-map-range_with_len, length-map-range_with_len}
 use Rattle.std.proofs.Math.ListN.{get_or-eq_default}
 use mathlib.Core.List.{IsPrefix}
-use Rattle.cod_chronicle.specs.Event.{Kill as EventKill}
+use Rattle.cod_chronicle.specs.Event.{NodeKill}
 use Rattle.cod_board.specs.declared.kill.Kill.{Kill}
 use Rattle.cod_board.specs.Seats.{kills_in}
 use Rattle.cod_board.specs.Words.{known}
@@ -23,12 +23,12 @@ none_known : (n node : ℕ) (seen : List (ℕ × Kill)) → n ≤ node → kills
 none_known n node seen out = ap (option_map plain_kill) (get_or-eq_default (kills_in n seen) None (let l = length-map-range_with_len (λ node. known node seen) 0 n in omega arith))
 
 -- a kill that events know is one that the seat has seen
-pub record Seen (node : ℕ) (seen : List (ℕ × Kill)) (k : EventKill) : Type 0 where
+pub record Seen (node : ℕ) (seen : List (ℕ × Kill)) (k : NodeKill) : Type 0 where
   pub kill : Kill
   pub is : known node seen ≡ Some kill
   pub plain : plain_kill kill ≡ k
 
-pub seen_of : (n node : ℕ) (seen : List (ℕ × Kill)) (k : EventKill) → kills_at (kills_in n seen) node ≡ Some k → Seen node seen k
+pub seen_of : (n node : ℕ) (seen : List (ℕ × Kill)) (k : NodeKill) → kills_at (kills_in n seen) node ≡ Some k → Seen node seen k
 seen_of n node seen k e = elim (cases_lt node n) [
   | inl lt ↦ by (known node seen) refl (sym (kills_known n node seen lt) ∙ e)
   | inr ge ↦ absurd (let bad : None ≡ Some k = sym (none_known n node seen ge) ∙ e in cc bad)
@@ -43,6 +43,6 @@ knows_more n xs ys p x k e = elim (cases_lt x n) [
       let s = seen_of n x xs k e in
       let is = s.is in
       let plain = s.plain in
-      kills_known n x ys lt ∙ (ap (option_map plain_kill) (known_later x xs ys s.kill p is) ∙ ap (λ (q : EventKill). Some q) plain)
+      kills_known n x ys lt ∙ (ap (option_map plain_kill) (known_later x xs ys s.kill p is) ∙ ap (λ (q : NodeKill). Some q) plain)
   | inr ge ↦ absurd (let bad : None ≡ Some k = sym (none_known n x xs ge) ∙ e in cc bad)
 ]

@@ -3,7 +3,7 @@ use Rattle.std.specs.Prelude.{◌≡◌, ◌⊎◌, ℕ, ◌+◌, ◌<◌, ◌�
 use Rattle.cod_chronicle.specs.declared.entry.Entry.{Entry}
 use Rattle.cod_chronicle.specs.declared.entry.Entry.TheVariants.{Call, Down, Up, Move}
 use Rattle.cod_chronicle.specs.declared.entry.Cause.TheVariants.{Killed, Fault}
-use Rattle.cod_chronicle.specs.Event.{Kill, Kills, IsSeenReply}
+use Rattle.cod_chronicle.specs.Event.{NodeKill, Kills, IsSeenReply}
 use Rattle.cod_chronicle.specs.Said.{stamp_of, last_stamp}
 use Rattle.cod_seats.specs.Totals.{times}
 
@@ -13,7 +13,7 @@ StampIn h u = (before : List Entry) × (e : Entry) × (after : List Entry) × (h
 
 -- a clock comes from the clock t that the pass began with, from these entries, or from a kill
 abbrev pub Comes : (kills : Kills) (t : ℕ) (before : List Entry) → ℕ → Type 0
-Comes kills t before u = (u ≡ t) ⊎ (((u ≡ 0) ⊎ StampIn before u) ⊎ ((x : ℕ) × (k : Kill) × (kills x ≡ Some k) × (k.clock ≡ u)))
+Comes kills t before u = (u ≡ t) ⊎ (((u ≡ 0) ⊎ StampIn before u) ⊎ ((x : ℕ) × (k : NodeKill) × (kills x ≡ Some k) × (k.clock ≡ u)))
 
 -- a stamp is one more than such a clock, or it is the last there is
 abbrev pub Springs : (kills : Kills) (t : ℕ) (before : List Entry) → ℕ → Type 0
@@ -24,7 +24,7 @@ Springs kills t before stamp = (stamp ≡ last_stamp) ⊎ ((u : ℕ) × (stamp �
 abbrev pub HasCause : (who : ℕ) (kills : Kills) (may : ℕ → Bool) → Entry → Type 0
 HasCause who kills may (Call caller number stamp call reply) = (caller.0 ≡ who) × IsSeenReply kills may reply
 HasCause who kills may (Down stamp col node (Killed line)) =
-    (k : Kill) × (kills node.0 ≡ Some k) × (k.line ≡ line) × ((k.clock < stamp) ⊎ (stamp ≡ last_stamp))
+    (k : NodeKill) × (kills node.0 ≡ Some k) × (k.line ≡ line) × ((k.clock < stamp) ⊎ (stamp ≡ last_stamp))
 HasCause who kills may (Down stamp col node (Fault count)) = (1 ≤ count) × IsTrue (may node.0)
 HasCause who kills may (Up stamp col node) = Unit {0}
 HasCause who kills may (Move stamp col node) = Unit {0}
@@ -49,4 +49,4 @@ Accounts G h was is = (p : ℕ) → 0 < times p is → (0 < times p was) ⊎ At 
 
 -- more kills are known
 abbrev pub Knows : Kills → Kills → Type 0
-Knows kills more = (x : ℕ) (k : Kill) → kills x ≡ Some k → more x ≡ Some k
+Knows kills more = (x : ℕ) (k : NodeKill) → kills x ≡ Some k → more x ≡ Some k

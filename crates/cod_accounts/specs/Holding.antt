@@ -7,7 +7,7 @@ use Rattle.cod_types.specs.declared.reasons.Why.{Why}
 use Rattle.cod_types.specs.declared.reasons.Why.TheVariants as why
 use Rattle.cod_chronicle.specs.declared.entry.Entry.{Entry}
 use Rattle.cod_chronicle.specs.declared.entry.Entry.TheVariants.{Call}
-use Rattle.cod_chronicle.specs.Event.{Kill, Kills, Request, Setting, Event}
+use Rattle.cod_chronicle.specs.Event.{NodeKill, Kills, Request, Setting, Event}
 use Rattle.cod_chronicle.specs.Said.{Site, last_stamp}
 use Rattle.cod_chronicle.specs.Standing.{OpenCalls}
 use Rattle.cod_board.specs.declared.kill.Kill.{Kill as Killed}
@@ -19,7 +19,7 @@ pub record Ground : Type 0 where
   pub may : ℕ → Bool
 
 -- the kills on a board, as events see them
-abbrev pub plain_kill : Killed → Kill
+abbrev pub plain_kill : Killed → NodeKill
 plain_kill k = record { line = k.line; clock = k.clock }
 
 abbrev pub kills_at : List (Option Killed) → Kills

@@ -8,7 +8,7 @@ use Rattle.std.proofs.lemmas.Option.{slice_get-get_or, slice_get-map}
 use Rattle.cod_board.specs.declared.kill.Kill.{Kill as Killed}
 use Rattle.cod_board.specs.Kills.{first_kill, kill_of}
 use Rattle.cod_chronicle.specs.declared.entry.Entry.{Entry}
-use Rattle.cod_chronicle.specs.Event.{Kill, Kills as Board, Request, Setting}
+use Rattle.cod_chronicle.specs.Event.{NodeKill, Kills as Board, Request, Setting}
 use Rattle.cod_chronicle.specs.Standing.{OpenCalls}
 use Rattle.cod_seg.specs.Next.{open_in}
 use Rattle.cod_seg.specs.Seg.{Seg}
@@ -148,7 +148,7 @@ serving_keeps x who board o segs old later new are h = keeps x who board o segs 
 
 -- ---- a node that fails, and no line
 
-abbrev as_kill : Killed → Kill
+abbrev as_kill : Killed → NodeKill
 as_kill k = record { line = k.line; clock = k.clock }
 
 first_kept : (o : Option Killed) (k : Killed) → Some (as_kill (first_kill o k)) ≡ kept (option_map as_kill o) (as_kill k)
@@ -176,7 +176,7 @@ failing_is_turn x who segs kills old after new h = record {
   at = h.at;
   board = λ y.
       kills_kept kills after h.node.0 h.kill h.there h.becomes y
-      ∙ ap (λ (n : ℕ). let k : Kill = record { line = h.kill.line; clock = n } in killed (kills_at kills) h.node.0 k y) h.clock_is;
+      ∙ ap (λ (n : ℕ). let k : NodeKill = record { line = h.kill.line; clock = n } in killed (kills_at kills) h.node.0 k y) h.clock_is;
   next = h.moves;
   clock = h.stays;
   same = refl;

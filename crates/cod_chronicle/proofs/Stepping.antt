@@ -11,7 +11,7 @@ use Rattle.cod_chronicle.specs.declared.entry.Entry.TheVariants.{Call, Down, Up,
 use Rattle.cod_chronicle.specs.declared.entry.Cause.TheVariants.{Killed, Fault}
 use Rattle.cod_chronicle.specs.Said.{stamp_of, clock_of, last_stamp, Precedes, is_call_by, calls_by}
 use Rattle.cod_chronicle.specs.Legal.{IsLegal}
-use Rattle.cod_chronicle.specs.Event.{Kill, Kills, clock_at, raised, Stamped, Request, Setting, IsSwept, Tells}
+use Rattle.cod_chronicle.specs.Event.{NodeKill, Kills, clock_at, raised, Stamped, Request, Setting, IsSwept, Tells}
 use Rattle.cod_chronicle.specs.Step.{IsMarkEntry, EndsWithCall, AnsweredEndsWithCall, IsAfterKill, MarksStandAfter, UnansweredAreMarks, EventsRise, StepLeadsOn}
 use Rattle.cod_chronicle.specs.Step.{LeavesOthersCalls}
 use Rattle.cod_chronicle.specs.Standing.{IsNoCallBut}
@@ -64,7 +64,7 @@ module _ (w : Setting) (r : Request) where
       let e : Entry = Move stamp col node in
       one_mark_more e h es after tt (ends stamp stamp es (h ++ e ∷ []) after tells stamped.1 (subst (IsSwept w.known w.site) (sym (append_assoc h (e ∷ []) es)) swept))
 
-  after_kills : (s t : ℕ) (es : List Entry) (after : ℕ) (answered : Bool) → ((x : ℕ) (k : Kill) → w.seen x ≡ Some k → k.clock < last_stamp)
+  after_kills : (s t : ℕ) (es : List Entry) (after : ℕ) (answered : Bool) → ((x : ℕ) (k : NodeKill) → w.seen x ≡ Some k → k.clock < last_stamp)
       → Tells w r es answered → Stamped w.seen s t es after → AllByRecursion (IsAfterKill w.seen) es
   after_kills s t [] after answered small tells stamped = tt
   after_kills s t ((Call caller number stamp call reply) ∷ es) after answered small tells stamped =

@@ -12,7 +12,7 @@ use Rattle.cod_chronicle.specs.declared.entry.Cause.TheVariants.{Killed, Fault}
 use Rattle.cod_chronicle.specs.Said.{Site, clock_of, next_stamp, is_down, node_of}
 use Rattle.cod_chronicle.specs.Legal.{LegalAfter}
 use Rattle.cod_chronicle.proofs.Growth.{clock_of-push, is_down-push, node_of-push}
-use Rattle.cod_chronicle.specs.Event.{Kills, Kill, raised, Stamped, Request, Setting, IsSwept, Tells, Adds, Event}
+use Rattle.cod_chronicle.specs.Event.{Kills, NodeKill, raised, Stamped, Request, Setting, IsSwept, Tells, Adds, Event}
 use Rattle.cod_chronicle.specs.Adding.{StaysOff}
 use Rattle.cod_chronicle.specs.Sweep.{IsPassed, IsCaught, Sweeps, TellsThen, ProceedsIsEvent, SweepsOneWay}
 use Rattle.cod_chronicle.proofs.Adding.{adds_more, keeps_swept, swept_step}
@@ -123,7 +123,7 @@ sweeps_one_way w (i ∷ is) h t es fs u v same (inr a) (inr b) =
     let ka = c.seen in
     let kb = d.seen in
     let kill : ka.0 ≡ kb.0 = (let z : Some ka.0 ≡ Some kb.0 = sym ka.1 ∙ ap (λ (n : NodeId). w.seen n.0) node ∙ kb.1 in cc) in
-    let line : a.1 ≡ b.1 = sym ka.2 ∙ ap (λ (k : Kill). k.line) kill ∙ kb.2 in
+    let line : a.1 ≡ b.1 = sym ka.2 ∙ ap (λ (k : NodeKill). k.line) kill ∙ kb.2 in
     let stamp : a.0 ≡ b.0 = (let p = c.stamp_is in let q = d.stamp_is in p
     ∙ ap (λ (n : NodeId). next_stamp (clock_of h) (raised w.seen t (Down 0 i n (Killed 0)))) node ∙ sym q) in
     let e : Entry = Down a.0 i a.2 (Killed a.1) in

@@ -13,16 +13,16 @@ use Rattle.cod_chronicle.specs.Said.{Site, stamp_of, clock_of, next_stamp, is_do
 use Rattle.cod_chronicle.specs.Legal.{LegalAfter}
 
 -- a node was killed: the line that did it, and its client's clock
-pub record Kill : Type 0 where
+pub record NodeKill : Type 0 where
   pub line : ℕ
   pub clock : ℕ
 
 -- the kill of each node that was killed
 abbrev pub Kills : Type 0
-Kills = ℕ → Option Kill
+Kills = ℕ → Option NodeKill
 
 -- the clock of a kill, or 0
-abbrev pub clock_at : Option Kill → ℕ
+abbrev pub clock_at : Option NodeKill → ℕ
 clock_at None = 0
 clock_at (Some k) = k.clock
 
@@ -38,7 +38,7 @@ Stamped kills s t (e ∷ es) after = (stamp_of e ≡ next_stamp s (raised kills 
 
 -- the node was killed by this line
 abbrev pub IsKilledBy : Kills → ℕ → ℕ → Type 0
-IsKilledBy kills x line = (k : Kill) × (kills x ≡ Some k) × (k.line ≡ line)
+IsKilledBy kills x line = (k : NodeKill) × (kills x ≡ Some k) × (k.line ≡ line)
 
 -- a mark's cause: the node was killed, or a region on a node where the shelf may fail has failed
 abbrev pub IsSeenCause : Kills → (ℕ → Bool) → ℕ → Cause → Type 0

@@ -10,7 +10,7 @@ use Rattle.cod_chronicle.specs.Said.{Site, last_stamp, Precedes, calls_by}
 use Rattle.cod_chronicle.specs.Legal.{IsLegal}
 use Rattle.cod_chronicle.specs.declared.entry.Cause.TheVariants.{Killed}
 use Rattle.cod_chronicle.specs.Standing.{IsNoCallBut}
-use Rattle.cod_chronicle.specs.Event.{Kill, Kills, Request, Setting, IsSeenReply, IsSwept, Event}
+use Rattle.cod_chronicle.specs.Event.{NodeKill, Kills, Request, Setting, IsSeenReply, IsSwept, Event}
 
 -- an entry is no call
 abbrev pub IsMarkEntry : Entry → Type 0
@@ -35,12 +35,12 @@ AnsweredEndsWithCall = (w : Setting) (r : Request) (h : List Entry) (t : ℕ) (e
 
 -- a mark of a killed node stands after the kill, by its clock
 abbrev pub IsAfterKill : Kills → Entry → Type 0
-IsAfterKill kills (Down stamp col node (Killed line)) = (k : Kill) × (kills node.0 ≡ Some k) × (k.line ≡ line) × (k.clock < stamp)
+IsAfterKill kills (Down stamp col node (Killed line)) = (k : NodeKill) × (kills node.0 ≡ Some k) × (k.line ≡ line) × (k.clock < stamp)
 IsAfterKill kills _ = Unit {0}
 
 abbrev pub MarksStandAfter : Type 0
 MarksStandAfter = (w : Setting) (r : Request) (h : List Entry) (t : ℕ) (entries : List Entry) (after : ℕ) (answered : Bool)
-    → ((x : ℕ) (k : Kill) → w.seen x ≡ Some k → k.clock < last_stamp) → Event w r h t entries after answered → AllByRecursion (IsAfterKill w.seen) entries
+    → ((x : ℕ) (k : NodeKill) → w.seen x ≡ Some k → k.clock < last_stamp) → Event w r h t entries after answered → AllByRecursion (IsAfterKill w.seen) entries
 
 -- One that doesn't answer adds marks alone.
 abbrev pub UnansweredAreMarks : Type 0

@@ -12,7 +12,7 @@ use Rattle.cod_chronicle.specs.declared.entry.Entry.{Entry}
 use Rattle.cod_chronicle.specs.declared.entry.Entry.TheVariants.{Down}
 use Rattle.cod_chronicle.specs.declared.entry.Cause.{Cause}
 use Rattle.cod_chronicle.specs.declared.entry.Cause.TheVariants.{Killed, Fault}
-use Rattle.cod_chronicle.specs.Event.{clock_at, IsKilledBy, IsSeenCause, IsSeenReply, IsSeenWhy, Kill, Kills, raised, Request, Setting}
+use Rattle.cod_chronicle.specs.Event.{clock_at, IsKilledBy, IsSeenCause, IsSeenReply, IsSeenWhy, NodeKill, Kills, raised, Request, Setting}
 use Rattle.cod_chronicle.specs.Said.{clock_of, next_stamp, Site}
 use Rattle.cod_chronicle.specs.Sweep.{IsCaught, IsPassed, Sweeps}
 use Rattle.cod_seg.specs.Happens.{Happened, Happens, IsArrived, IsEntered, IsMarked, IsSilent}
@@ -33,7 +33,7 @@ IsLater earlier later = (x : ℕ) → IsSome (earlier x) → later x ≡ earlier
 abbrev pub seeing : Setting → Kills → Setting
 seeing w kills = record w { seen = kills }
 
-some_is : (o : Option Kill) (k : Kill) → o ≡ Some k → IsSome o
+some_is : (o : Option NodeKill) (k : NodeKill) → o ≡ Some k → IsSome o
 some_is o k e = rw e refl
 
 killed_later : (a b : Kills) (x line : ℕ) → IsLater a b → IsKilledBy a x line → IsKilledBy b x line
@@ -64,7 +64,7 @@ reply_later a b may reply.Lost later is = tt
 
 raised_later : (a b : Kills) (may : ℕ → Bool) (t stamp col : ℕ) (node : NodeId) (cause : Cause) → IsLater a b → IsSeenCause a may node.0 cause
     → raised b t (Down stamp col node cause) ≡ raised a t (Down stamp col node cause)
-raised_later a b may t stamp col node (Killed line) later is = ap (λ (o : Option Kill). max t (clock_at o)) (later node.0 (some_is (a node.0) is.0 is.1))
+raised_later a b may t stamp col node (Killed line) later is = ap (λ (o : Option NodeKill). max t (clock_at o)) (later node.0 (some_is (a node.0) is.0 is.1))
 raised_later a b may t stamp col node (Fault count) later is = refl
 
 -- ---- steps

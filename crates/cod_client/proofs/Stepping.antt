@@ -4,7 +4,7 @@ use Rattle.std.specs.Prelude.{◌+◌, ◌^◌, true, false, option_map, IsTrue}
 use Rattle.cod_board.specs.declared.kill.Kill.{Kill as Killed}
 use Rattle.cod_board.specs.Kills.{Keeps, kill_of}
 use Rattle.cod_types.specs.declared.call.Call.{Call as Asked}
-use Rattle.cod_chronicle.specs.Event.{Kill, Kills, Request, Setting}
+use Rattle.cod_chronicle.specs.Event.{NodeKill, Kills, Request, Setting}
 use Rattle.cod_chronicle.specs.Said.{numbers_by}
 use Rattle.cod_claims.specs.Slips.{Paper, prepared}
 use Rattle.cod_seg.specs.Next.{next_step, open_in}
@@ -33,7 +33,7 @@ advanced_of r after (Held h) u old new is = absurd is
 
 -- ---- what boards show
 
-abbrev shown : Option Killed → Option Kill
+abbrev shown : Option Killed → Option NodeKill
 shown o = option_map (λ (k : Killed). record { line = k.line; clock = k.clock }) o
 
 kept_at : (a b : List (Option Killed)) (x : ℕ) → Keeps a b → IsSome (kills_at a x) → kills_at b x ≡ kills_at a x

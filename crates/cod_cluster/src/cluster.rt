@@ -28,7 +28,7 @@ use std::sync::Wait;
 
 /// A scenario's segments over regions of a shelf, with a board and pools, that callers share. Each makes its calls by a pass.
 #[derive(Drop)]
-pub struct Cluster<R: Region, H: Shelf<Region = R> + Drop> {
+pub struct Cluster<R: Region, H> {
     pub turns: Vec<Turn<Stripe<R>>>,
     pub shared: Shared<H>,
     /// The first seats, from which the passes' were split.

@@ -83,8 +83,10 @@ impl Pools for PlainPools {
         self.free[room.node.0 as usize] += bytes;
     }
 
-    fn give(&mut self, room: Room) {
+    fn give(&mut self, mut room: Room) -> Room {
         self.free[room.node.0 as usize] += room.bytes;
+        room.bytes = 0;
+        room
     }
 
     ghost came_none = { came_none_lem };

@@ -65,13 +65,14 @@ pub trait Pools {
         ensures ready { ready self.new }
         ensures same { same self.old self.new };
 
-    /// Gives all bytes of a room back.
-    fn give(&mut self, room: Room)
+    /// Gives all bytes of a room back. The room that is left has none.
+    fn give(&mut self, room: Room) -> Room
         requires came { Came self.old (room ∷ []) }
         requires ready { ready self.old }
         ensures free { free self.new ≡ option_map (raised room.node.0 room.bytes) (free self.old) }
         ensures came { (rooms : List Room) → Came self.old (room ∷ rooms) → Came self.new rooms }
         ensures sizes { (nodes self.new ≡ nodes self.old) × (capacity self.new ≡ capacity self.old) }
+        ensures empty { result ≡ record room { bytes = 0 } }
         ensures ready { ready self.new }
         ensures same { same self.old self.new };
 

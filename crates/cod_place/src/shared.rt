@@ -197,11 +197,13 @@ impl SharedPools {
         room.badge = own.into_badge();
     }
 
-    /// Gives all bytes of a room back.
-    pub fn give(&self, mut room: Room)
+    /// Gives all bytes of a room back. The room that is left has none.
+    pub fn give(&self, mut room: Room) -> Room
         requires room { AreOf self.now.of (room ∷ []) }
+        ensures { result ≡ record room { bytes = 0 } }
     {
         let bytes = room.bytes;
         self.trim(&mut room, bytes);
+        room
     }
 }

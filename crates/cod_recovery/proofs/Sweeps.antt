@@ -149,7 +149,7 @@ caught w later next i t after u v sound below at keeps seen x =
       live = not_true (is_down u.log i) (sym is.up ∙ x.live);
       there = is.there ∙ ap (λ (q : Site). node_of q u.log i) (sym at);
       seen = (record { line = x.kill.line; clock = x.kill.clock }, kill, refl);
-      stamp_is = x.clock ∙ sym (ap (λ (o : Option event.Kill). next_stamp (clock_of u.log) (max t (clock_at o))) kill);
+      stamp_is = x.clock ∙ sym (ap (λ (o : Option event.NodeKill). next_stamp (clock_of u.log) (max t (clock_at o))) kill);
     }
 
 -- what was made of the columns before, and then of this one
@@ -300,7 +300,7 @@ pub rebuild_swept : (w : Setting) (first mid last : List (Option Kill)) (old new
     → ((x : ℕ) → w.seen x ≡ kills_at last x) → IsTargetSwept mid last old new → SweepsRebuild w old new
 rebuild_swept w first mid last None new keeps known seen is = is
 rebuild_swept w first mid last (Some q) new keeps known seen is = (is.0, is.1, by q.target is.2) where
-  shown : (o : Option Kill) → IsSome o → IsSome {T = event.Kill} (option_map (λ (k : Kill). record { line = k.line; clock = k.clock }) o)
+  shown : (o : Option Kill) → IsSome o → IsSome {T = event.NodeKill} (option_map (λ (k : Kill). record { line = k.line; clock = k.clock }) o)
   shown None some = some
   shown (Some k) some = refl
 

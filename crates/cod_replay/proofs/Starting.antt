@@ -10,7 +10,7 @@ use Rattle.std.proofs.lemmas.List.Elements.{All-append, All-map, All-nil}
 use Rattle.cod_region.specs.Device.{AllRegions}
 use Rattle.cod_board.specs.declared.kill.Kill.{Kill as Killed}
 use Rattle.cod_board.specs.Kills.{kill_of}
-use Rattle.cod_chronicle.specs.Event.{Kill}
+use Rattle.cod_chronicle.specs.Event.{NodeKill}
 use Rattle.cod_chronicle.specs.Legal.{node_id}
 use Rattle.cod_place.specs.Room.{Room}
 use Rattle.cod_place.specs.Rooms.{CameFrom, Store}
@@ -87,7 +87,7 @@ whole_first x plays are who = λ line seg call at. elim (cases_lt who (length x.
 none_killed : (kills : List (Option Killed)) (nodes : ℕ) → kills ≡ replicate nodes None → (node : ℕ) → kills_at kills node ≡ None
 none_killed kills nodes is node =
     let n : kill_of (replicate nodes None) node ≡ None = by (cases_lt node nodes) in
-    ap (λ (ks : List (Option Killed)). kills_at ks node) is ∙ ap (option_map (λ (k : Killed). let q : Kill = record { line = k.line; clock = k.clock } in q)) n where
+    ap (λ (ks : List (Option Killed)). kills_at ks node) is ∙ ap (option_map (λ (k : Killed). let q : NodeKill = record { line = k.line; clock = k.clock } in q)) n where
       by : (node < nodes) ⊎ (nodes ≤ node) → kill_of (replicate nodes None) node ≡ None
       by (inl lt) = get_or-replicate nodes node None None lt
       by (inr ge) = get_or_past (replicate nodes None) node None (let l = length-replicate {A = Option Killed} nodes None in omega (arith, l, ge))

@@ -20,7 +20,7 @@ use Rattle.cod_chronicle.proofs.Orders.{Each-weaker, Each-filter, filter_map-kee
 use Rattle.cod_script.specs.declared.line.Line.{Line}
 use Rattle.cod_script.specs.Script.{Ask, asks}
 use Rattle.cod_script.specs.Owed.{FailsBehind, IsFailLine, IsGivenWhy, IsGiven, IsLicensed, ask_by, asked_in, asked_by, StandsAfter}
-use Rattle.cod_chronicle.specs.Event.{Kill}
+use Rattle.cod_chronicle.specs.Event.{NodeKill}
 use Rattle.cod_turns.specs.Turns.{Course, board_clock}
 use Rattle.cod_turns.specs.Whole_runs.{LinesApart}
 use Rattle.cod_turns.specs.Closed.{IsMade, IsMadeWhy, IsMadeReply, IsMadeEntry, IsClosed, ClosedIsHistory}
@@ -69,7 +69,7 @@ module _ (x : Course) (owes : ℕ → List Ask) (hs : List (List Entry)) (own : 
       let f : Placed → Option Ask = ask_by who in
       filter_map-keep f (order hs) ∙ ap (filter_map f) (filter_agree (λ p. is_some (f p)) (is_by who) (asks_as_numbers who) (order hs)) ∙ ap (filter_map f) (in_order who)
 
-  fails : (node line : ℕ) (k : Kill) → IsMade x.script hs own node k → k.line ≡ line → IsFailLine x.script line node
+  fails : (node line : ℕ) (k : NodeKill) → IsMade x.script hs own node k → k.line ≡ line → IsFailLine x.script line node
   fails node line k m e = record { who = m.who; front = m.front; behind = subst (λ (l : ℕ). FailsBehind x.script m.who m.front l node) e m.behind }
 
   why_given : (node : ℕ) (y : Why) → IsMadeWhy x hs own node y → IsGivenWhy x.script x.may node y

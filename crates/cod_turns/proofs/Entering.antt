@@ -10,11 +10,11 @@ use Rattle.cod_chronicle.specs.Said.{site_as, is_down, node_of}
 use Rattle.cod_chronicle.proofs.Growth.{is_down-push, node_of-push}
 use Rattle.cod_script.specs.declared.line.What.TheVariants.{Segment}
 use Rattle.cod_script.specs.Script.{Script, asks}
-use Rattle.cod_chronicle.specs.Event.{Kill, IsSeenCause, IsSeenReply, IsSwept, Tells}
+use Rattle.cod_chronicle.specs.Event.{NodeKill, IsSeenCause, IsSeenReply, IsSwept, Tells}
 use Rattle.cod_turns.specs.Turns.{World, Course, IsLineAt, setting, request_of, line_after}
 
 -- the entry of a client's call: it is that of its line, and each killed node is out
-pub record IsAnswered (x : Script) (board : ℕ → Option Kill) (place who s : ℕ) (h : List Entry) (caller number : ℕ) (call : Asked) : Type 0 where
+pub record IsAnswered (x : Script) (board : ℕ → Option NodeKill) (place who s : ℕ) (h : List Entry) (caller number : ℕ) (call : Asked) : Type 0 where
   pub line : ℕ
   pub seg : SegId
   pub at : IsLineAt x who place (record { line = line; what = Segment seg call })
@@ -24,7 +24,7 @@ pub record IsAnswered (x : Script) (board : ℕ → Option Kill) (place who s : 
   pub out : (i : ℕ) → i < x.shape.n → IsSome (board (node_of (site_as true x.shape x.nodes s) h i)) → is_down h i ≡ true
 
 -- Entries of a client's event: marks that have their cause, then at most one call, which moves the client on from its place.
-abbrev pub Told : Script → (ℕ → Bool) → (ℕ → Option Kill) → ℕ → ℕ → List Entry → ℕ → List Entry → ℕ → Type 0
+abbrev pub Told : Script → (ℕ → Bool) → (ℕ → Option NodeKill) → ℕ → ℕ → List Entry → ℕ → List Entry → ℕ → Type 0
 Told x may board who s before place [] next = next ≡ place
 Told x may board who s before place ((Call caller number stamp call reply) ∷ es) next =
     IsAnswered x board place who s before caller.0 number call × (IsSeenReply board may reply × ((es ≡ []) × (next ≡ place + 1)))

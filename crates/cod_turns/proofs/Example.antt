@@ -16,7 +16,7 @@ use Rattle.cod_chronicle.proofs.Answering.{answer_served, answer_lost}
 use Rattle.cod_script.specs.declared.line.Line.{Line}
 use Rattle.cod_script.specs.declared.line.What.TheVariants.{Segment, Fail}
 use Rattle.cod_script.specs.Script.{Script}
-use Rattle.cod_chronicle.specs.Event.{Kill, Kills as Killings, Request}
+use Rattle.cod_chronicle.specs.Event.{NodeKill, Kills as Killings, Request}
 use Rattle.cod_chronicle.specs.Standing.{OpenCalls}
 use Rattle.cod_turns.specs.declared.turned.Turned.TheVariants.{Killed as NodeKilled, Held, Moved, Answered}
 use Rattle.cod_turns.specs.Turns.{World, Course, start, setting, Serves, Kills, Turns, killed, AllEnded}
@@ -76,7 +76,7 @@ no_kill = λ x. None
 abbrev none_open : ℕ → OpenCalls
 none_open = λ s c. None
 
-abbrev kill : Kill
+abbrev kill : NodeKill
 kill = record { line = 11; clock = 1 }
 
 abbrev w1 : World

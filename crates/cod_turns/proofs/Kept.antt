@@ -27,7 +27,7 @@ use Rattle.cod_script.specs.declared.line.Line.{Line}
 use Rattle.cod_script.specs.declared.line.What.TheVariants.{Segment, Fail}
 use Rattle.cod_script.specs.Script.{Script, Ask, asks, lines_by}
 use Rattle.cod_script.specs.Owed.{FailsBehind, IsFailLine, IsGivenWhy, IsGiven, IsLicensed, ask_by, asked_in, asked_by, IsOut, SeesFails, SeesFailsAfter, failed_ahead}
-use Rattle.cod_chronicle.specs.Event.{Kill, clock_at, raised, IsKilledBy, IsSeenCause, IsSeenWhy, IsSeenReply}
+use Rattle.cod_chronicle.specs.Event.{NodeKill, clock_at, raised, IsKilledBy, IsSeenCause, IsSeenWhy, IsSeenReply}
 use Rattle.cod_turns.specs.Turns.{World, IsLineAt, OthersStay}
 use Rattle.cod_turns.proofs.Entering.{IsAnswered}
 use Rattle.cod_turns.proofs.Lists.{slice_get-set_same, slice_get-set_other, one_at, Each-insert, Each-without, length-insert, take_front, take_front_more, has_more, has_new, sees_push}
@@ -57,7 +57,7 @@ abbrev pub IsClock : List Placed → ℕ → Type 0
 IsClock ps t = (t ≡ 0) ⊎ HasStamp ps t
 
 -- a kill on the board was made by a `fail` line, and what its client did before has no later stamp
-pub record IsKill (x : Script) (ps : List Placed) (next : ℕ → ℕ) (node : ℕ) (k : Kill) : Type 0 where
+pub record IsKill (x : Script) (ps : List Placed) (next : ℕ → ℕ) (node : ℕ) (k : NodeKill) : Type 0 where
   pub who : ℕ
   pub front : List Line
   pub behind : FailsBehind x who front k.line node
@@ -67,8 +67,8 @@ pub record IsKill (x : Script) (ps : List Placed) (next : ℕ → ℕ) (node : �
       → AllByRecursion (λ p. number_by who p.entry ≡ Some number → stamp_at p ≤ k.clock) ps
 
 -- a mark of a killed node stands after the kill
-abbrev pub IsMark : (ℕ → Option Kill) → Entry → Type 0
-IsMark board (Down stamp col node (Killed line)) = (k : Kill) × (board node.0 ≡ Some k) × (k.line ≡ line) × (k.clock < stamp)
+abbrev pub IsMark : (ℕ → Option NodeKill) → Entry → Type 0
+IsMark board (Down stamp col node (Killed line)) = (k : NodeKill) × (board node.0 ≡ Some k) × (k.line ≡ line) × (k.clock < stamp)
 IsMark board (Down stamp col node (Fault count)) = Unit {0}
 IsMark board (Call caller number stamp call reply) = Unit {0}
 IsMark board (Up stamp col node) = Unit {0}
@@ -95,7 +95,7 @@ pub record Kept (x : Script) (may : ℕ → Bool) (w : World) : Type 0 where
   pub small : AllByRecursion (λ p. stamp_at p ≤ length (placed w.chronicles)) (placed w.chronicles)
   pub gaps : AllByRecursion (λ p. (stamp_at p ≤ 1) ⊎ HasStamp (placed w.chronicles) (stamp_at p - 1)) (placed w.chronicles)
   pub clocks : (c : ℕ) → IsClock (placed w.chronicles) (w.clock c)
-  pub kills : (node : ℕ) (k : Kill) → w.board node ≡ Some k → IsKill x (placed w.chronicles) w.next node k
+  pub kills : (node : ℕ) (k : NodeKill) → w.board node ≡ Some k → IsKill x (placed w.chronicles) w.next node k
   pub done : (c : ℕ) (front : List Line) (line node : ℕ) → FailsBehind x c front line node → length front < w.next c → IsSome (w.board node)
   pub licensed : AllByRecursion (λ p. IsLicensed x may p.entry) (placed w.chronicles)
   pub marks : AllByRecursion (λ p. IsMark w.board p.entry) (placed w.chronicles)
@@ -117,18 +117,18 @@ IsClock-all P ps t zero_too all (inl z) = rw z zero_too
 IsClock-all P ps t zero_too all (inr h) = All-contains P (map stamp_at ps) t (All-map P stamp_at ps (All-from_recursion (λ p. P (stamp_at p)) ps all)) h
 
 -- the client's clock, raised, is still a clock
-IsClock-raised : (ps : List Placed) (board : ℕ → Option Kill) (t : ℕ) (e : Entry) → IsClock ps t
-    → ((node : ℕ) (k : Kill) → board node ≡ Some k → IsClock ps k.clock) → IsClock ps (raised board t e)
+IsClock-raised : (ps : List Placed) (board : ℕ → Option NodeKill) (t : ℕ) (e : Entry) → IsClock ps t
+    → ((node : ℕ) (k : NodeKill) → board node ≡ Some k → IsClock ps k.clock) → IsClock ps (raised board t e)
 IsClock-raised ps board t (Call caller number stamp call reply) h k = h
 IsClock-raised ps board t (Down stamp col node (Killed line)) h k = IsClock-max ps t (clock_at (board node.0)) h (of (board node.0) refl) where
-  of : (o : Option Kill) → board node.0 ≡ o → IsClock ps (clock_at o)
+  of : (o : Option NodeKill) → board node.0 ≡ o → IsClock ps (clock_at o)
   of None e = inl refl
   of (Some kill) e = k node.0 kill e
 IsClock-raised ps board t (Down stamp col node (Fault count)) h k = h
 IsClock-raised ps board t (Up stamp col node) h k = h
 IsClock-raised ps board t (Move stamp col node) h k = h
 
-raised_above : (board : ℕ → Option Kill) (t : ℕ) (e : Entry) → t ≤ raised board t e
+raised_above : (board : ℕ → Option NodeKill) (t : ℕ) (e : Entry) → t ≤ raised board t e
 raised_above board t (Call caller number stamp call reply) = omega arith
 raised_above board t (Down stamp col node (Killed line)) = omega arith
 raised_above board t (Down stamp col node (Fault count)) = omega arith
@@ -368,7 +368,7 @@ module _ (x : Script) (may : ℕ → Bool) (who s : ℕ) (e : Entry) (w v : Worl
   marks_then : AllByRecursion (λ p. IsMark v.board p.entry) (placed v.chronicles)
   marks_then =
       let b = E.board in
-      subst (λ (board : ℕ → Option Kill). AllByRecursion (λ p. IsMark board p.entry) (placed v.chronicles)) (sym b)
+      subst (λ (board : ℕ → Option NodeKill). AllByRecursion (λ p. IsMark board p.entry) (placed v.chronicles)) (sym b)
       (each (λ p. IsMark w.board p.entry) (λ p. IsMark w.board p.entry) (λ p h. h) K.marks (marked x may w who s E.h e (v.next who) E.moves (let m = stamp_is in omega arith)))
 
   -- a caller that says nothing more
@@ -475,7 +475,7 @@ module _ (x : Script) (may : ℕ → Bool) (who s : ℕ) (e : Entry) (w v : Worl
   done_next : (c : ℕ) (front : List Line) (line node : ℕ) → FailsBehind x c front line node → length front < v.next c → IsSome (v.board node)
   done_next c front line node f l =
       let b = E.board in
-      subst (λ (board : ℕ → Option Kill). IsSome (board node)) (sym b) (elim (cases_lt (length front) (w.next c)) [
+      subst (λ (board : ℕ → Option NodeKill). IsSome (board node)) (sym b) (elim (cases_lt (length front) (w.next c)) [
         | inl early ↦ K.done c front line node f early
         | inr late ↦ elim (cases_eq c who) [
           | inl same ↦
@@ -496,10 +496,10 @@ module _ (x : Script) (may : ℕ → Bool) (who s : ℕ) (e : Entry) (w v : Worl
         ]
       ])
 
-  kills_then : (node : ℕ) (k : Kill) → v.board node ≡ Some k → IsKill x (placed v.chronicles) v.next node k
+  kills_then : (node : ℕ) (k : NodeKill) → v.board node ≡ Some k → IsKill x (placed v.chronicles) v.next node k
   kills_then node k is =
       let b = E.board in
-      let i = K.kills node k (sym (ap (λ (board : ℕ → Option Kill). board node) b) ∙ is) in
+      let i = K.kills node k (sym (ap (λ (board : ℕ → Option NodeKill). board node) b) ∙ is) in
       record {
         who = i.who;
         front = i.front;

@@ -37,7 +37,7 @@ use Rattle.cod_script.specs.declared.line.Line.{Line}
 use Rattle.cod_script.specs.declared.line.What.TheVariants.{Segment, Fail}
 use Rattle.cod_script.specs.Script.{Script, Ask, ask_of, asks, lines_by}
 use Rattle.cod_script.specs.Owed.{FailsBehind, IsLicensed, asked_by, SeesFailsAfter, StandsAfter, IsHistory, owed}
-use Rattle.cod_chronicle.specs.Event.{Kill, raised, IsSeenReply, Stamped}
+use Rattle.cod_chronicle.specs.Event.{NodeKill, raised, IsSeenReply, Stamped}
 use Rattle.cod_turns.specs.Turns.{World, Course, OthersStay, start, Serves, Kills, kept, board_clock, Turn, Turns, AllEnded}
 use Rattle.cod_turns.proofs.Entering.{IsAnswered, Told, told_by}
 use Rattle.cod_turns.specs.Whole_runs.{LinesApart, RunsAreHistories, FailsAreKills}
@@ -191,12 +191,12 @@ unfiltered : (P Q : Placed → Type 0) (t : Placed → Bool) → ((p : Placed) �
 unfiltered P Q t f g [] a = tt
 unfiltered P Q t f g (p ∷ ps) a = one P Q t f g p ps (unfiltered P Q t f g ps) (t p) refl a
 
-kept_some : (o : Option Kill) (k : Kill) → IsSome (kept o k)
+kept_some : (o : Option NodeKill) (k : NodeKill) → IsSome (kept o k)
 kept_some None k = refl
 kept_some (Some old) k = refl
 
 module _ (x : Script) (may : ℕ → Bool) (who : ℕ) (w v : World) (T : Kills x who w v) (K : Kept x may w) where
-  mine : Kill
+  mine : NodeKill
   mine = record { line = T.line; clock = board_clock (w.clock who) }
 
   -- the node's first kill
@@ -207,13 +207,13 @@ module _ (x : Script) (may : ℕ → Bool) (who : ℕ) (w v : World) (T : Kills 
   elsewhere y ne = T.board y ∙ ap (λ (b : Bool). cond b (kept (w.board y) (record { line = T.line; clock = board_clock (w.clock who) })) (w.board y)) (ne_eqb y T.node.0 ne)
 
   -- a kill that was there stays
-  still : (y : ℕ) (k : Kill) → w.board y ≡ Some k → v.board y ≡ Some k
+  still : (y : ℕ) (k : NodeKill) → w.board y ≡ Some k → v.board y ≡ Some k
   still y k is = elim (cases_eq y T.node.0) [
-    | inl same ↦ ap v.board same ∙ here ∙ ap (λ (o : Option Kill). kept o (record { line = T.line; clock = board_clock (w.clock who) })) (ap w.board (sym same) ∙ is)
+    | inl same ↦ ap v.board same ∙ here ∙ ap (λ (o : Option NodeKill). kept o (record { line = T.line; clock = board_clock (w.clock who) })) (ap w.board (sym same) ∙ is)
     | inr diff ↦ elsewhere y diff ∙ is
   ]
 
-  still_some : (o : Option Kill) (y : ℕ) → w.board y ≡ o → IsSome o → IsSome (v.board y)
+  still_some : (o : Option NodeKill) (y : ℕ) → w.board y ≡ o → IsSome o → IsSome (v.board y)
   still_some None y is h = absurd (cc)
   still_some (Some k) y is h = ap is_some (still y k is)
 
@@ -244,7 +244,7 @@ module _ (x : Script) (may : ℕ → Bool) (who : ℕ) (w v : World) (T : Kills 
     | inr diff ↦ (let n = (T.others c diff).0 in ap (λ (m : ℕ). asks (take m (lines_by x c))) n)
   ]
 
-  kill_same : (y : ℕ) (k : Kill) → IsKill x (placed w.chronicles) w.next y k → IsKill x (placed w.chronicles) v.next y k
+  kill_same : (y : ℕ) (k : NodeKill) → IsKill x (placed w.chronicles) w.next y k → IsKill x (placed w.chronicles) v.next y k
   kill_same y k i = record { who = i.who; front = i.front; behind = i.behind; done = (let n = next_up i.who in let d = i.done in omega arith); clock = i.clock; covers = i.covers }
 
   kill_new : IsKill x (placed w.chronicles) v.next T.node.0 (record { line = T.line; clock = board_clock (w.clock who) })
@@ -264,7 +264,7 @@ module _ (x : Script) (may : ℕ → Bool) (who : ℕ) (w v : World) (T : Kills 
         (λ p h n. omega arith) (λ p f n. absurd (no_number (number_by who p.entry) number f n)) (placed w.chronicles) (K.below who);
   }
 
-  kills_here : (y : ℕ) (k : Kill) (o : Option Kill) → w.board T.node.0 ≡ o → y ≡ T.node.0 → kept o (record { line = T.line; clock = board_clock (w.clock who) }) ≡ Some k
+  kills_here : (y : ℕ) (k : NodeKill) (o : Option NodeKill) → w.board T.node.0 ≡ o → y ≡ T.node.0 → kept o (record { line = T.line; clock = board_clock (w.clock who) }) ≡ Some k
       → IsKill x (placed w.chronicles) v.next y k
   kills_here y k None is same now =
       let e : (record { line = T.line; clock = board_clock (w.clock who) }) ≡ k = cc in
@@ -272,7 +272,7 @@ module _ (x : Script) (may : ℕ → Bool) (who : ℕ) (w v : World) (T : Kills 
   kills_here y k (Some old) is same now =
       kill_same y k (K.kills y k (ap w.board same ∙ is ∙ now))
 
-  kills_now : (y : ℕ) (k : Kill) → v.board y ≡ Some k → IsKill x (placed w.chronicles) v.next y k
+  kills_now : (y : ℕ) (k : NodeKill) → v.board y ≡ Some k → IsKill x (placed w.chronicles) v.next y k
   kills_now y k is = elim (cases_eq y T.node.0) [
     | inl same ↦ kills_here y k (w.board T.node.0) refl same (sym here ∙ sym (ap v.board same) ∙ is)
     | inr diff ↦ kill_same y k (K.kills y k (sym (elsewhere y diff) ∙ is))
@@ -563,7 +563,7 @@ start_sound x =
     }
 
 -- all stamps below 2^32: the marks of killed nodes stand after what their clients did before
-stands : (x : Script) (ps : List Placed) (board : ℕ → Option Kill) (next : ℕ → ℕ) → LinesApart x → ((y : ℕ) (k : Kill) → board y ≡ Some k → IsKill x ps next y k)
+stands : (x : Script) (ps : List Placed) (board : ℕ → Option NodeKill) (next : ℕ → ℕ) → LinesApart x → ((y : ℕ) (k : NodeKill) → board y ≡ Some k → IsKill x ps next y k)
     → AllByRecursion (λ p. stamp_at p < 2 ^ 32) ps → (e : Entry) → IsMark board e → StandsAfter x ps e
 stands x ps board next apart kills all (Down stamp col node (Killed line)) m =
     λ who number front f l.
@@ -612,7 +612,7 @@ history x w X S ended =
 pub runs_are_histories : RunsAreHistories
 runs_are_histories x schedule w X run ended = history x w X (turns x X schedule (start (length x.script.segments)) w run (start_sound x)) ended
 
-some_kill : (o : Option Kill) → IsSome o → (k : Kill) × (o ≡ Some k)
+some_kill : (o : Option NodeKill) → IsSome o → (k : NodeKill) × (o ≡ Some k)
 some_kill None h = absurd (cc)
 some_kill (Some k) h = (k, refl)
 

@@ -16,13 +16,13 @@ use Rattle.cod_chronicle.specs.Laws.{AreOwn}
 use Rattle.cod_script.specs.declared.line.Line.{Line}
 use Rattle.cod_script.specs.Script.{Script, Ask, asks}
 use Rattle.cod_script.specs.Owed.{FailsBehind, asked_by, SeesFailsAfter, IsHistory}
-use Rattle.cod_chronicle.specs.Event.{Kill}
+use Rattle.cod_chronicle.specs.Event.{NodeKill}
 use Rattle.cod_turns.specs.Turns.{Course, board_clock}
 use Rattle.cod_script.specs.Sound.{IsScenario}
 
 -- A kill that a caller made, by its `fail` line: its clock is that of the caller at that moment, which is no smaller than the
 -- stamps of what the caller had called before.
-pub record IsMade (x : Script) (hs : List (List Entry)) (own : ℕ → List Placed) (node : ℕ) (k : Kill) : Type 0 where
+pub record IsMade (x : Script) (hs : List (List Entry)) (own : ℕ → List Placed) (node : ℕ) (k : NodeKill) : Type 0 where
   pub who : ℕ
   pub front : List Line
   pub behind : FailsBehind x who front k.line node
@@ -32,7 +32,7 @@ pub record IsMade (x : Script) (hs : List (List Entry)) (own : ℕ → List Plac
   pub covers : (number : ℕ) → number < length (asks front) → AllByRecursion (λ p. number_by who p.entry ≡ Some number → stamp_at p ≤ clock) (own who)
 
 abbrev pub IsMadeWhy : Course → List (List Entry) → (ℕ → List Placed) → ℕ → Why → Type 0
-IsMadeWhy x hs own node (why.Down line) = (k : Kill) × IsMade x.script hs own node k × (k.line ≡ line)
+IsMadeWhy x hs own node (why.Down line) = (k : NodeKill) × IsMade x.script hs own node k × (k.line ≡ line)
 IsMadeWhy x hs own node (why.Free bytes) = Unit {0}
 IsMadeWhy x hs own node (why.Fault count) = (1 ≤ count) × IsTrue (x.may node)
 
@@ -43,7 +43,7 @@ IsMadeReply x hs own _ = Unit {0}
 -- a mark stands after the kill that it tells of, and reasons tell of kills
 abbrev pub IsMadeEntry : Course → List (List Entry) → (ℕ → List Placed) → Entry → Type 0
 IsMadeEntry x hs own (Call caller number stamp call reply) = IsMadeReply x hs own reply
-IsMadeEntry x hs own (Down stamp col node (Killed line)) = (k : Kill) × IsMade x.script hs own node.0 k × (k.line ≡ line) × (k.clock < stamp)
+IsMadeEntry x hs own (Down stamp col node (Killed line)) = (k : NodeKill) × IsMade x.script hs own node.0 k × (k.line ≡ line) × (k.clock < stamp)
 IsMadeEntry x hs own (Down stamp col node (Fault count)) = (1 ≤ count) × IsTrue (x.may node.0)
 IsMadeEntry x hs own (Up stamp col node) = Unit {0}
 IsMadeEntry x hs own (Move stamp col node) = Unit {0}

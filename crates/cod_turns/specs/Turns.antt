@@ -7,7 +7,7 @@ use Rattle.cod_types.specs.declared.call.Call.{Call as Asked}
 use Rattle.cod_chronicle.specs.declared.entry.Entry.{Entry}
 use Rattle.cod_chronicle.specs.Said.{site_as}
 use Rattle.cod_chronicle.specs.Standing.{OpenCalls}
-use Rattle.cod_chronicle.specs.Event.{Kill, Kills as Board, Setting, Request}
+use Rattle.cod_chronicle.specs.Event.{NodeKill, Kills as Board, Setting, Request}
 use Rattle.cod_chronicle.specs.Sweep.{Proceeds}
 use Rattle.cod_script.specs.declared.line.Line.{Line}
 use Rattle.cod_script.specs.declared.line.What.TheVariants.{Segment, Fail}
@@ -106,11 +106,11 @@ abbrev pub board_clock : ℕ → ℕ
 board_clock t = if nat_lt t (2 ^ 32) then t else 0
 
 -- the first kill of a node stays
-abbrev pub kept : Option Kill → Kill → Option Kill
+abbrev pub kept : Option NodeKill → NodeKill → Option NodeKill
 kept None k = Some k
 kept (Some old) k = Some old
 
-abbrev pub killed : Board → (node : ℕ) → Kill → Board
+abbrev pub killed : Board → (node : ℕ) → NodeKill → Board
 killed board x k y = if y == x then kept (board y) k else board y
 
 -- a client's turn with a `fail` line
