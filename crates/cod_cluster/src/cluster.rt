@@ -31,6 +31,11 @@ use std::sync::Wait;
 pub struct Cluster<R: Region, H> {
     pub turns: Vec<Turn<Stripe<R>>>,
     pub shared: Shared<H>,
+}
+
+/// What the end of a cluster needs, which callers don't share.
+#[derive(Drop)]
+pub struct Ending<R: Region> {
     /// The first seats, from which the passes' were split.
     pub rest: Rest<R>,
     /// No segment yet: room for them at the close.
@@ -47,19 +52,20 @@ pub struct Receipt {
 }
 
 impl<R: Region, H: Shelf<Region = R> + Drop> Cluster<R, H> {
-    /// A cluster of the scenario's segments, each with its columns at home, and a pass for each of so many callers, fewer than
-    /// 65536, in order. It takes all memory of a cluster but that of targets and of decoding rows: also what its close needs.
+    /// A cluster of the scenario's segments, each with its columns at home, what its end needs, and a pass for each of so many
+    /// callers, fewer than 65536, in order. It takes all memory of a cluster but that of targets and of decoding rows: also what its
+    /// close needs.
     pub fn build(
         alloc: Global,
         scenario: &Scenario,
         callers: u32,
         shelf: H,
-    ) -> Result<(Cluster<R, H>, Vec<Pass<R>>), OutOfMemory>
+    ) -> Result<(Cluster<R, H>, Ending<R>, Vec<Pass<R>>), OutOfMemory>
         requires { callers < 65536 }
         ensures shelf { IfOk result (λ r. r.0.shared.shelf ≡ shelf) }
         ensures opened { IfOk result (λ r. IsOpened scenario.now callers
-            (record { turns = r.0.turns.items; board = r.0.shared.board; pools = r.0.shared.pools; regions = H.regions r.0.shared.shelf }) r.0.rest r.1.items) }
-        ensures room { IfOk result (λ r. (r.0.closed.items ≡ []) × (vec_len r.0.turns ≤ vec_capacity r.0.closed)) }
+            (record { turns = r.0.turns.items; board = r.0.shared.board; pools = r.0.shared.pools; regions = H.regions r.0.shared.shelf }) r.1.rest r.2.items) }
+        ensures room { IfOk result (λ r. (r.1.closed.items ≡ []) × (vec_len r.0.turns ≤ vec_capacity r.1.closed)) }
     {
         let closed = Vec::with_capacity(alloc, scenario.segments() as usize)?;
         let Opened {
@@ -68,13 +74,8 @@ impl<R: Region, H: Shelf<Region = R> + Drop> Cluster<R, H> {
             rest,
             passes: list,
         } = open(alloc, scenario, callers, shelf)?;
-        let cluster = Cluster {
-            turns,
-            shared,
-            rest,
-            closed,
-        };
-        Ok((cluster, list))
+        let ending = Ending { rest, closed };
+        Ok((Cluster { turns, shared }, ending, list))
     }
 
     /// Makes the call of a slip that was prepared for the segments' geometry, and waits until it is answered: for the segment's
@@ -151,20 +152,16 @@ impl<R: Region, H: Shelf<Region = R> + Drop> Cluster<R, H> {
     }
 
     /// Ends the cluster. These are all its passes, in any order. It takes no memory.
-    pub fn close(self, passes: Vec<Pass<R>>) -> Closed<R>
-        requires whole { (x : Script) × IsWhole x (record { turns = self.turns.items; board = self.shared.board; pools = self.shared.pools; regions = H.regions self.shared.shelf }) self.rest passes.items }
-        requires room { (self.closed.items ≡ []) × (vec_len self.turns ≤ vec_capacity self.closed) }
+    pub fn close(self, ending: Ending<R>, passes: Vec<Pass<R>>) -> Closed<R>
+        requires whole { (x : Script) × IsWhole x (record { turns = self.turns.items; board = self.shared.board; pools = self.shared.pools; regions = H.regions self.shared.shelf }) ending.rest passes.items }
+        requires room { (ending.closed.items ≡ []) × (vec_len self.turns ≤ vec_capacity ending.closed) }
         ensures { (x : Script)
-            → IsWhole x (record { turns = self.turns.items; board = self.shared.board; pools = self.shared.pools; regions = H.regions self.shared.shelf }) self.rest passes.items
+            → IsWhole x (record { turns = self.turns.items; board = self.shared.board; pools = self.shared.pools; regions = H.regions self.shared.shelf }) ending.rest passes.items
             → IsClosedOf x (record { turns = self.turns.items; board = self.shared.board; pools = self.shared.pools; regions = H.regions self.shared.shelf })
             passes.items result.stripes.items result.board result.pools }
     {
-        let Cluster {
-            turns,
-            shared,
-            rest,
-            closed,
-        } = self;
+        let Cluster { turns, shared } = self;
+        let Ending { rest, closed } = ending;
         close(turns, shared, rest, passes, closed)
     }
 }

@@ -3,7 +3,7 @@
 
 mod cluster;
 
-pub use cluster::{Cluster, Receipt};
+pub use cluster::{Cluster, Ending, Receipt};
 pub use cod_calls::{Gate, NoGate, Point};
 pub use cod_closing::Closed;
 pub use cod_pass::Pass;

@@ -1,0 +1,5 @@
+pub mod Commands
+pub mod Jobs
+pub mod Shifts
+pub mod Ends
+pub mod Runs
