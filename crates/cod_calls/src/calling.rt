@@ -97,9 +97,16 @@ pub fn call<R: Region, H: Shelf<Region = R>, G: Gate, W: Wait>(
             return answered(position, stamp, slip);
         }
         events = events.saturating_add(1);
-        thread::yield_now();
+        let_others_go(&outcome);
     }
     unreachable!()
+}
+
+/// Where a call was held, another thread has to go on first.
+fn let_others_go(outcome: &Outcome) {
+    if let Outcome::Held(_) = outcome {
+        thread::yield_now();
+    }
 }
 
 /// Waits until the chronicle has room for the entries of an event. It always has: a list of 2^62 entries fits no memory.

@@ -1,5 +1,5 @@
 //! Segments, a board and pools that callers share.
-ghost use Rattle.std.specs.Prelude.{◌≡◌, ◌+◌, ◌<◌, ◌≤◌, ◌^◌, [], Option, IfOk, length, vec_capacity, vec_len};
+ghost use Rattle.std.specs.Prelude.{◌≡◌, ◌+◌, ◌<◌, ◌≤◌, ◌^◌, [], max, Option, IfOk, length, vec_capacity, vec_len};
 ghost use Rattle.cod_types.specs.declared.call.Call.TheVariants.{Upgrade};
 ghost use Rattle.cod_board.specs.declared.kill.Kill.{Kill as Killed};
 ghost use Rattle.cod_claims.specs.Slips.{prepared};
@@ -140,13 +140,13 @@ impl<R: Region, H: Shelf<Region = R> + Drop> Cluster<R, H> {
             .kill(&mut desk.board, node, Kill { line, clock });
     }
 
-    /// The pass's later entries stand after this stamp. It doesn't wait.
+    /// The pass's later entries stand after this stamp, too. It doesn't wait.
     pub fn meet(&self, pass: &mut Pass<R>, stamp: u64)
         ensures pass { (x : Script)
             → IsPassOf x (record { turns = self.now.turns.items; board = self.now.shared.board; pools = self.now.shared.pools; regions = H.regions self.now.shared.shelf }) pass.old
             → IsPassOf x (record { turns = self.now.turns.items; board = self.now.shared.board; pools = self.now.shared.pools; regions = H.regions self.now.shared.shelf }) pass.new }
         ensures met { HasMet (known_by pass.old) (known_by pass.new) }
-        ensures stamp { stamp ≤ pass.new.clock }
+        ensures clock { pass.new.clock ≡ max pass.old.clock stamp }
     {
         pass.desk.clock = pass.desk.clock.max(stamp);
     }

@@ -188,6 +188,27 @@ fn four_threads(rt: HostRuntime) -> Result<(), Fail> {
     Ok(())
 }
 
+/// Borrows all bytes of a node again and again. Tells how often they were there.
+fn again<R: Wait>(rt: &R, pools: &SharedPools, mut seat: PoolSeat) -> u32
+    requires { (seat.of ≡ pools.now.of) × (pools.now.of.words ≡ 2) }
+{
+    let mut borrowed = 0u32;
+    for _ in 0..10 {
+        let mut pass = PoolPass::new(rt, pools, &mut seat);
+        if borrow(&mut pass, NodeId(1), 100) {
+            borrowed = borrowed.wrapping_add(1);
+        }
+    }
+    borrowed
+}
+
+#[test]
+fn bytes_come_back(rt: HostRuntime) -> Result<(), Fail> {
+    let (pools, seat) = SharedPools::open(rt.alloc(), PlainPools::new(rt.alloc(), 2, 100)?)?;
+    assert!(rt; again(&rt, &pools, seat) == 10);
+    Ok(())
+}
+
 #[test]
 fn spare_of_shared(rt: HostRuntime) -> Result<(), Fail> {
     let (board, mut seat) = SharedBoard::new(rt.alloc(), 8)?;
