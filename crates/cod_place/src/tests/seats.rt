@@ -177,17 +177,6 @@ fn four<R: Threads + Wait + Sync>(rt: &R, alloc: Global) -> Result<(PlainPools, 
     Ok((pools.close(rest), borrowed))
 }
 
-#[test]
-fn four_threads(rt: HostRuntime) -> Result<(), Fail> {
-    let (mut pools, borrowed) = four(&rt, rt.alloc())?;
-    // each thread's last five bytes are out, and nothing else
-    assert!(rt; pools.free(NodeId(0)) == 100 && pools.free(NodeId(1)) == 80);
-    assert!(rt; 0 < borrowed && borrowed <= 800);
-    assert!(rt; borrow(&mut pools, NodeId(1), 80) && !borrow(&mut pools, NodeId(1), 81));
-    assert!(rt; pools.free(NodeId(1)) == 80);
-    Ok(())
-}
-
 /// Borrows all bytes of a node again and again. Tells how often they were there.
 fn again<R: Wait>(rt: &R, pools: &SharedPools, mut seat: PoolSeat) -> u32
     requires { (seat.of ≡ pools.now.of) × (pools.now.of.words ≡ 2) }
@@ -204,8 +193,14 @@ fn again<R: Wait>(rt: &R, pools: &SharedPools, mut seat: PoolSeat) -> u32
 
 #[test]
 fn bytes_come_back(rt: HostRuntime) -> Result<(), Fail> {
-    let (pools, seat) = SharedPools::open(rt.alloc(), PlainPools::new(rt.alloc(), 2, 100)?)?;
-    assert!(rt; again(&rt, &pools, seat) == 10);
+    let (shared, seat) = SharedPools::open(rt.alloc(), PlainPools::new(rt.alloc(), 2, 100)?)?;
+    assert!(rt; again(&rt, &shared, seat) == 10);
+    let (mut pools, borrowed) = four(&rt, rt.alloc())?;
+    // each thread's last five bytes are out, and nothing else
+    assert!(rt; pools.free(NodeId(0)) == 100 && pools.free(NodeId(1)) == 80);
+    assert!(rt; 0 < borrowed && borrowed <= 800);
+    assert!(rt; borrow(&mut pools, NodeId(1), 80) && !borrow(&mut pools, NodeId(1), 81));
+    assert!(rt; pools.free(NodeId(1)) == 80);
     Ok(())
 }
 
