@@ -1,7 +1,7 @@
 -- The lines of callers: what they ask, and that they can be done.
-use Rattle.std.proofs.Common.{◌≡◌, ◌⊎◌, inl, inr, ℕ, zero, suc, ◌+◌, ◌-◌, ◌*◌, ◌%◌, ◌<◌, ◌≤◌, ◌^◌, Bool, true, false, cond, List, [], ◌∷◌, ◌++◌, length, map, refl, sym, ap, ◌∙◌, subst, arith}
-use Rattle.std.specs.Prelude.{nat_lt, slice_index_or, ◌==◌, ◌&&◌, ◌||◌}
-use Rattle.std.specs.List.{All, AllByRecursion, list_any, range_with_len, sum_by}
+use Rattle.std.proofs.Common.{◌≡◌, inl, inr, ℕ, zero, suc, ◌+◌, ◌-◌, ◌%◌, ◌<◌, ◌≤◌, ◌^◌, Bool, true, false, cond, List, [], ◌∷◌, ◌++◌, length, map, refl, sym, ap, ◌∙◌, subst, arith}
+use Rattle.std.specs.Prelude.{slice_index_or, ◌==◌, ◌&&◌, ◌||◌}
+use Rattle.std.specs.List.{All, AllByRecursion, list_any, range_with_len}
 use Rattle.std.proofs.lemmas.Bool.{cases_lt, lt-ltb, le-ltb}
 use Rattle.std.proofs.lemmas.List.{length-map, map-append}
 use Rattle.std.proofs.lemmas.List.FromFn.{length-range_with_len}
@@ -12,9 +12,9 @@ use Rattle.cod_types.specs.declared.call.Call.TheVariants.{Read, Write, Swap, Pu
 use Rattle.cod_script.specs.declared.line.Line.{Line}
 use Rattle.cod_script.specs.declared.line.What.{What}
 use Rattle.cod_script.specs.declared.line.What.TheVariants as what
-use Rattle.cod_script.specs.Owed.{care_ask, has_fail, is_fail, owed_with_care}
+use Rattle.cod_script.specs.Owed.{care_ask, has_fail, is_fail}
 use Rattle.cod_script.specs.Script.{Ask, Client, Script, asks, lines_by, nobody}
-use Rattle.cod_script.specs.Sound.{IsClient, IsDated, IsDatedCall, IsDatedClient, IsLine, IsScenario, IsThere}
+use Rattle.cod_script.specs.Sound.{IsDated, IsDatedCall, IsLine, IsScenario, IsThere}
 use Rattle.cod_accounts.specs.Closing.{HasNoFail}
 use Rattle.cod_turns.proofs.Running.{fewer_asks}
 use Rattle.cod_shell.proofs.Texts.{range_split}

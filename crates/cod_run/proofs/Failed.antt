@@ -1,5 +1,5 @@
 -- The nodes that are killed at the end are those that the scenario fails.
-use Rattle.std.proofs.Common.{◌≡◌, ◌⊎◌, inl, inr, ℕ, zero, suc, ◌+◌, ◌<◌, ◌≤◌, true, false, Option, Some, None, List, [], ◌∷◌, ◌++◌, length, refl, sym, ap, ◌∙◌, subst, arith}
+use Rattle.std.proofs.Common.{◌≡◌, inl, inr, ℕ, ◌+◌, ◌<◌, ◌≤◌, true, false, Option, Some, List, [], ◌∷◌, ◌++◌, length, sym, ap, ◌∙◌, subst, arith}
 use Rattle.std.specs.Prelude.{is_some, slice_get}
 use Rattle.std.specs.List.{All, AllByRecursion}
 use Rattle.std.proofs.lemmas.Bool.{cases_lt}
@@ -10,9 +10,9 @@ use Rattle.cod_board.specs.declared.kill.Kill.{Kill}
 use Rattle.cod_board.specs.Kills.{kill_of}
 use Rattle.cod_board.proofs.Found.{known_has}
 use Rattle.cod_script.specs.declared.line.Line.{Line}
-use Rattle.cod_script.specs.declared.line.What.TheVariants.{Segment, Fail}
+use Rattle.cod_script.specs.declared.line.What.TheVariants.{Fail}
 use Rattle.cod_script.specs.Owed.{failed_ahead, is_fail, owed_with_care, FailsBehind, IsFailLine}
-use Rattle.cod_script.specs.Script.{Ask, Client, Script, ask_of, asks, lines_by, nobody}
+use Rattle.cod_script.specs.Script.{Client, Script, ask_of, asks, lines_by, nobody}
 use Rattle.cod_seg.specs.Next.{open_in}
 use Rattle.cod_seg.specs.Seg.{Seg}
 use Rattle.cod_turns.specs.Turns.{Course}

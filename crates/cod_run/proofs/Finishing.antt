@@ -1,7 +1,7 @@
 -- The end of a run.
-use Rattle.std.proofs.Common.{◌≡◌, ℕ, zero, suc, ◌+◌, ◌-◌, ◌<◌, ◌≤◌, Bool, true, false, cond, not, ◌||◌, Option, Some, List, [], ◌∷◌, ◌++◌, length, map, eqb-true, refl, sym, ap, ◌∙◌, subst, arith}
-use Rattle.std.specs.Prelude.{IsTrue, All, slice_get, slice_index, slice_index_or, ◌==◌}
-use Rattle.std.specs.List.{filter, flat_map, list_any, range_with_len}
+use Rattle.std.proofs.Common.{◌≡◌, ℕ, zero, suc, ◌+◌, ◌<◌, ◌≤◌, Bool, true, false, cond, not, ◌||◌, Option, Some, List, [], ◌∷◌, length, map, eqb-true, refl, sym, ap, ◌∙◌, subst, arith}
+use Rattle.std.specs.Prelude.{IsTrue, All, slice_get, slice_index_or, ◌==◌}
+use Rattle.std.specs.List.{filter, list_any, range_with_len}
 use Rattle.std.proofs.lemmas.List.{length-map}
 use Rattle.cod_types.specs.declared.call.NodeId.{NodeId}
 use Rattle.cod_board.specs.declared.kill.Kill.{Kill}
@@ -27,7 +27,7 @@ use Rattle.cod_shell.proofs.Fitting.{has_chronicles}
 use Rattle.cod_shell.proofs.Wider.{history_wider}
 use Rattle.cod_closing.specs.Closing.{IsClosedOf, log_of}
 use Rattle.cod_pass.specs.States.{Common, course_on, known_by, PassState}
-use Rattle.cod_run.specs.Ends.{End, IsEnd, IsPrintable}
+use Rattle.cod_run.specs.Ends.{IsEnd, IsPrintable}
 use Rattle.cod_run.proofs.Failed.{killed_by_line, line_has_killed}
 use Rattle.cod_run.proofs.Shifting.{get_here, get_mapped}
 

@@ -1,11 +1,11 @@
 -- All callers' work together.
-use Rattle.std.proofs.Common.{◌≡◌, ◌⊎◌, inl, inr, ℕ, zero, suc, ◌+◌, ◌-◌, ◌<◌, ◌≤◌, false, List, [], ◌∷◌, ◌++◌, length, map, take, drop, Some, refl, sym, ap, ◌∙◌, subst, append-nil, arith}
+use Rattle.std.proofs.Common.{◌≡◌, inl, inr, ℕ, zero, suc, ◌+◌, ◌-◌, ◌<◌, false, List, [], ◌∷◌, ◌++◌, length, map, take, drop, Some, refl, sym, ap, ◌∙◌, subst, append-nil, arith}
 use Rattle.std.specs.Prelude.{slice_get, slice_index_or}
 use Rattle.std.proofs.lemmas.Bool.{cases_lt}
 use Rattle.std.proofs.lemmas.List.{length-append, length-map}
 use Rattle.cod_script.specs.declared.line.Line.{Line}
-use Rattle.cod_script.specs.Owed.{care_ask, has_fail, owed_with_care}
-use Rattle.cod_script.specs.Script.{Script, asks, lines_by}
+use Rattle.cod_script.specs.Owed.{has_fail, owed_with_care}
+use Rattle.cod_script.specs.Script.{Script}
 use Rattle.cod_seg.specs.Next.{open_in}
 use Rattle.cod_seg.specs.Seg.{Seg}
 use Rattle.cod_turn.specs.Seats.{Seated}

@@ -1,16 +1,16 @@
 -- What is printed of a run's end, by a scenario whose lines were moved out.
-use Rattle.std.proofs.Common.{◌≡◌, ℕ, ◌<◌, List, All, Option, length, refl, sym, ap, ◌∙◌, subst, arith}
+use Rattle.std.proofs.Common.{◌≡◌, ℕ, List, Option, length, refl, sym, ap, ◌∙◌, subst, arith}
 use Rattle.cod_region.specs.Device.{AllRegions}
 use Rattle.cod_board.specs.declared.kill.Kill.{Kill}
 use Rattle.cod_place.specs.Rooms.{Store}
 use Rattle.cod_script.specs.Script.{Script}
 use Rattle.cod_seg.specs.Seg.{Seg}
-use Rattle.cod_shell.specs.Lines.{IsNamed, PrintsAs}
+use Rattle.cod_shell.specs.Lines.{PrintsAs}
 use Rattle.cod_shell.proofs.Bare.{names_same, run_same}
 use Rattle.cod_run.specs.declared.command.Command.{Command}
 use Rattle.cod_run.specs.declared.command.Command.TheVariants.{Run, Summary}
 use Rattle.cod_run.specs.Ends.{End, IsEnd, IsPrintable}
-use Rattle.cod_run.specs.Runs.{Ran, Serves, text_of}
+use Rattle.cod_run.specs.Runs.{Serves, text_of}
 
 pub printable_bare : (whole bare : Script) (segs : List Seg) (kills : List (Option Kill)) (pools : Store) → PrintsAs whole bare → IsPrintable whole segs kills pools → IsPrintable bare segs kills pools
 printable_bare whole bare segs kills pools b p =

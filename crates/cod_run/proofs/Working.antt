@@ -1,12 +1,10 @@
 -- One job of a caller, and the jobs before it.
-use Rattle.std.proofs.Common.{◌≡◌, ℕ, ◌+◌, ◌<◌, ◌^◌, false, List, [], ◌∷◌, ◌++◌, length, map, Option, refl, sym, ap, ◌∙◌, subst, append-nil, append_assoc, arith}
-use Rattle.std.specs.Prelude.{unwrap_or}
+use Rattle.std.proofs.Common.{◌≡◌, ℕ, ◌+◌, ◌<◌, ◌^◌, false, List, [], ◌∷◌, ◌++◌, length, Option, refl, sym, ap, ◌∙◌, subst, append-nil, append_assoc, arith}
 use Rattle.std.specs.List.{AllByRecursion}
 use Rattle.std.proofs.lemmas.List.{length-append}
 use Rattle.std.proofs.lemmas.List.Elements.{filter_map-append}
 use Rattle.cod_types.specs.Limits.{Shape}
 use Rattle.cod_types.specs.declared.call.Call.{Call as Asked}
-use Rattle.cod_types.specs.declared.call.Call.TheVariants.{Merge}
 use Rattle.cod_types.specs.declared.call.NodeId.{NodeId}
 use Rattle.cod_types.specs.declared.call.Reply.{Reply}
 use Rattle.cod_types.specs.declared.call.SegId.{SegId}

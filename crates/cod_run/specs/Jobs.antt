@@ -1,5 +1,5 @@
 -- What callers have to do, as plain data.
-use Rattle.std.specs.Prelude.{◌≡◌, ℕ, ◌+◌, ◌-◌, ◌<◌, ◌≤◌, nat_lt, if◌then◌else◌, All, Bool, List, map, length, slice_get, slice_index_or, Some}
+use Rattle.std.specs.Prelude.{◌≡◌, ℕ, ◌-◌, ◌<◌, ◌≤◌, nat_lt, if◌then◌else◌, All, Bool, List, map, length, slice_get, slice_index_or, Some}
 use Rattle.std.specs.List.{range_with_len}
 use Rattle.cod_types.specs.Limits.{Shape}
 use Rattle.cod_types.specs.declared.call.Call.TheVariants.{Upgrade}

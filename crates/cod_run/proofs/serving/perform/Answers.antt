@@ -1,4 +1,4 @@
-use Rattle.cod_shell.proofs.TextRead.{not_refused, reads_none, two_left}
+use Rattle.cod_shell.proofs.TextRead.{not_refused, two_left}
 use Rattle.cod_run.proofs.serving.perform.Goals as goal
 
 pub returns-in-Some-clause-complete : goal.returns-in-Some-clause-complete

@@ -1,4 +1,4 @@
-use Rattle.std.proofs.Common.{◌+◌, map, ap, ◌∙◌, sym, arith}
+use Rattle.std.proofs.Common.{arith}
 use Rattle.cod_run.proofs.Played.{start_of}
 use Rattle.cod_run.proofs.threads.start.Goals as goal
 

@@ -1,5 +1,3 @@
-use Rattle.std.proofs.Common.{ℕ}
-use Rattle.cod_pass.specs.States.{Common}
 use Rattle.cod_run.proofs.Working.{call_ready_as, called_as, fail_ready_as, killed_as, number_fits_as}
 use Rattle.cod_run.proofs.threads.work_one.Goals as goal
 
