@@ -4,14 +4,9 @@ use Rattle.std.specs.Prelude.{All, option_map}
 use Rattle.std.specs.List.{AllByRecursion}
 use Rattle.std.proofs.lemmas.Bool.{cases_lt, false≢true}
 use Rattle.std.proofs.lemmas.List.{append-nil}
-use Rattle.std.proofs.lemmas.List.Elements.{All-weaker}
 use mathlib.Core.List.{IsPrefix}
 use Rattle.cod_types.specs.declared.call.Call as calls
 use Rattle.cod_types.specs.declared.call.Reply.{Reply}
-use Rattle.cod_types.specs.declared.call.Reply.TheVariants.{Bytes, Done, Range, Long, Lost, Whole, Rebuilt, NoSpare, NoMem, Shifted, Clear, Differs}
-use Rattle.cod_types.specs.declared.reasons.Reason.{Reason}
-use Rattle.cod_types.specs.declared.reasons.Why.{Why}
-use Rattle.cod_types.specs.declared.reasons.Why.TheVariants as why
 use Rattle.cod_chronicle.specs.declared.entry.Entry.{Entry}
 use Rattle.cod_chronicle.specs.declared.entry.Entry.TheVariants.{Call, Down, Up, Move}
 use Rattle.cod_chronicle.specs.Event.{Kills, Request, Setting, IsSwept, IsSeenReply, Event}
@@ -29,7 +24,7 @@ use Rattle.cod_turn.proofs.Numbering.{numbers_of_calls}
 use Rattle.cod_turn.proofs.Prefixes.{calls_by-append, prefix_self, prefix_trans}
 use Rattle.cod_accounts.specs.Accounts.{Accounts, Account, Comes}
 use Rattle.cod_accounts.specs.Calling.{Called, Made}
-use Rattle.cod_accounts.specs.Holding.{Ground, Answer, Hold, Leaves, kills_at, plain_kill, entry_of, AreLooked, IsLooked, setting}
+use Rattle.cod_accounts.specs.Holding.{Ground, Answer, Hold, Leaves, kills_at, plain_kill, entry_of, setting}
 use Rattle.cod_accounts.proofs.Accounting.{holds_accounts}
 use Rattle.cod_accounts.proofs.Kills.{kills_known, known_later, knows_more}
 
@@ -43,27 +38,6 @@ snoc_same (x ∷ z ∷ xs) [] a b e = absurd (cc e)
 snoc_same (x ∷ xs) (y ∷ ys) a b e =
     let head : x ≡ y = cc e in
     let rest = snoc_same xs ys a b (cc e) in (cc (head, rest.0), rest.1)
-
--- what was seen in a part of the time was seen in all of it
-module _ (Seen Later : ℕ → ℕ → Type 0) (wider : (node bytes : ℕ) → Seen node bytes → Later node bytes) where
-  wide : (node : ℕ) (y : Why) → IsLooked Seen node y → IsLooked Later node y
-  wide node (why.Free bytes) s = wider node bytes s
-  wide node (why.Down line) s = tt
-  wide node (why.Fault count) s = tt
-
-  pub looked_later : (reply : Reply) → AreLooked Seen reply → AreLooked Later reply
-  looked_later (NoSpare reasons) a = All-weaker (λ (q : Reason). IsLooked Seen q.node.0 q.why) (λ (q : Reason). IsLooked Later q.node.0 q.why) (λ q s. wide q.node.0 q.why s) reasons a
-  looked_later (Bytes bytes) a = tt
-  looked_later (Differs bytes) a = tt
-  looked_later Done a = tt
-  looked_later Range a = tt
-  looked_later Long a = tt
-  looked_later Lost a = tt
-  looked_later Whole a = tt
-  looked_later (Rebuilt col node) a = tt
-  looked_later NoMem a = tt
-  looked_later (Shifted col node) a = tt
-  looked_later Clear a = tt
 
 -- marks have no calls
 pub marks_silent : (c : ℕ) (es : List Entry) → AllByRecursion IsMarkEntry es → calls_by c es ≡ []

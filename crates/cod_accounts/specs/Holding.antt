@@ -1,10 +1,7 @@
 -- What one hold of a segment's turn comes to, for a caller's call.
-use Rattle.std.specs.Prelude.{◌≡◌, ◌⊎◌, ℕ, ◌≤◌, Bool, is_some, List, [], ◌∷◌, ◌++◌, length, All, Option, Some, None, option_map}
+use Rattle.std.specs.Prelude.{◌≡◌, ◌⊎◌, ℕ, ◌≤◌, Bool, is_some, List, [], ◌∷◌, ◌++◌, length, Option, Some, None, option_map}
 use Rattle.cod_types.specs.declared.call.Call.{Call as Asked}
 use Rattle.cod_types.specs.declared.call.Reply.{Reply}
-use Rattle.cod_types.specs.declared.call.Reply.TheVariants.{NoSpare}
-use Rattle.cod_types.specs.declared.reasons.Why.{Why}
-use Rattle.cod_types.specs.declared.reasons.Why.TheVariants as why
 use Rattle.cod_chronicle.specs.declared.entry.Entry.{Entry}
 use Rattle.cod_chronicle.specs.declared.entry.Entry.TheVariants.{Call}
 use Rattle.cod_chronicle.specs.Event.{NodeKill, Kills, Request, Setting, Event}
@@ -28,15 +25,6 @@ kills_at kills node = option_map plain_kill (kill_of kills node)
 -- an event on this ground, whose board has these kills before it and those after it
 abbrev pub setting : Ground → (before after : List (Option Killed)) → Setting
 setting g before after = record { site = g.site; known = kills_at before; seen = kills_at after; may = g.may }
-
--- a number of free bytes among the reasons for no spare was seen: `Seen` says which numbers were seen of which node
-abbrev pub IsLooked : (Seen : ℕ → ℕ → Type 0) → ℕ → Why → Type 0
-IsLooked Seen node (why.Free bytes) = Seen node bytes
-IsLooked Seen node _ = Unit {0}
-
-abbrev pub AreLooked : (Seen : ℕ → ℕ → Type 0) → Reply → Type 0
-AreLooked Seen (NoSpare reasons) = All (λ r. IsLooked Seen r.node.0 r.why) reasons
-AreLooked Seen _ = Unit {0}
 
 -- what a call was answered: where its entry stands, its stamp, and the reply
 pub record Answer : Type 0 where

@@ -12,8 +12,8 @@ use Rattle.cod_chronicle.specs.Said.{last_stamp}
 use Rattle.cod_claims.specs.Slips.{Paper, prepared}
 use Rattle.cod_board.specs.Seats.{Asked, asked_later_lem, asked_self_lem, kills_in}
 use Rattle.cod_client.specs.declared.Client.{Client}
-use Rattle.cod_place.specs.Free.{After}
-use Rattle.cod_place.specs.Seats.{after_later_lem, after_self_lem}
+use Rattle.cod_place.specs.Free.{After, HasSeen, Seated as PoolSeated}
+use Rattle.cod_place.specs.Seats.{after_later_lem, after_self_lem, seen_earlier_lem}
 use Rattle.cod_seg.specs.Next.{open_in}
 use Rattle.cod_seg.specs.Seg.{Seg}
 use Rattle.cod_seg.specs.Sound.{Sound}
@@ -22,6 +22,8 @@ use Rattle.cod_segment.specs.declared.asking.Outcome.TheVariants.{Moved, Answere
 use Rattle.cod_segment.specs.Advancing.{IsAdvanced, number_after}
 use Rattle.cod_segment.specs.Events.{call_in, IsAsked, IsCallOf, request_of}
 use Rattle.cod_segment.specs.Exact.{Turns}
+use Rattle.cod_segment.specs.Looks.{AreLooked, HasLooked}
+use Rattle.cod_segment.proofs.Looking.{looked_later}
 use Rattle.cod_stripe.specs.Standing.{gauge_of, IsStep, name_of}
 use Rattle.cod_turn.specs.Seats.{IsIdle, Seated}
 use Rattle.cod_turn.specs.Turning.{callers, FollowsByOne, given, held_by, Meets}
@@ -64,6 +66,12 @@ pub answered_told : (o : Outcome) (r : Request) (after position stamp : ℕ) (u 
 answered_told o r after position stamp u p q outcome advanced =
     let came : IsAdvanced (Answered position stamp) r after u p q = subst (λ (z : Outcome). IsAdvanced z r after u p q) outcome advanced in
     replied r stamp q.reply came.2.1 came.2.4
+
+-- what was looked at in the event that answers was looked at in the call
+pub looked_in_call : (first since now : PoolSeated) (told : Option Reply) (reply : Reply) → After first since → told ≡ Some reply → HasLooked (HasSeen since now) told
+    → AreLooked (HasSeen first now) reply
+looked_in_call first since now told reply after is looked =
+    looked_later (HasSeen since now) (HasSeen first now) (λ node bytes seen. seen_earlier_lem first since now node bytes after seen) reply (subst (HasLooked (HasSeen since now)) is looked)
 
 -- an event that doesn't answer leaves the number
 unanswered_number : (o : Outcome) (n : ℕ) → Unanswered o → number_after o n ≡ n

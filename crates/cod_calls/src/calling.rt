@@ -7,13 +7,14 @@ ghost use Rattle.cod_chronicle.specs.Legal.{node_id};
 ghost use Rattle.cod_chronicle.specs.Said.{last_stamp};
 ghost use Rattle.cod_claims.specs.Slips.{prepared};
 ghost use Rattle.cod_board.specs.Seats.{Asked, kills_in};
-ghost use Rattle.cod_place.specs.Free.{After};
+ghost use Rattle.cod_place.specs.Free.{After, HasSeen};
 ghost use Rattle.cod_seg.specs.Next.{open_in};
 ghost use Rattle.cod_seg.specs.Seg.{Seg};
 ghost use Rattle.cod_seg.specs.Sound.{is_frail, Sound};
 ghost use Rattle.cod_segment.specs.Advancing.{IsAdvanced, number_after};
 ghost use Rattle.cod_segment.specs.Events.{call_in, HasRoom, IsAsked, IsSettingOf, kills_at, request_of, rooms_of};
 ghost use Rattle.cod_segment.specs.Exact.{Turns};
+ghost use Rattle.cod_segment.specs.Looks.{AreLooked, HasLooked};
 ghost use Rattle.cod_turn.specs.Seats.{IsIdle};
 ghost use Rattle.cod_accounts.specs.Calling.{Made};
 ghost use Rattle.cod_accounts.specs.Holding.{setting};
@@ -72,6 +73,7 @@ pub fn call<R: Region, H: Shelf<Region = R>, G: Gate, W: Wait>(
     } }
     ensures board { Asked desk.old.board desk.new.board }
     ensures pools { After desk.old.pools desk.new.pools }
+    ensures looked { AreLooked (HasSeen desk.old.pools desk.new.pools) result.reply }
     ensures made { (s : Seg) → seat.old.knows.own ≡ (desk.old.client.caller.0, s) ∷ []
         → Made (λ (x : Seg). x.log) open_in (ground_of s) (request_of desk.old.client.caller.0 desk.old.client.number (call_in slip))
         desk.old.clock desk.new.clock desk.old.board.knows.seen desk.new.board.knows.seen seat.old.knows seat.new.knows
@@ -149,6 +151,7 @@ fn event<R: Region, H: Shelf<Region = R>, W: Wait>(
     ensures turns { Turns (setting (ground_of stripe.old) (kills_in stripe.old.site.nodes desk.old.board.knows.seen) (kills_in stripe.old.site.nodes desk.new.board.knows.seen))
         (request_of desk.old.client.caller.0 desk.old.client.number (call_in slip.old)) desk.old.clock desk.new.clock result stripe.old stripe.new }
     ensures outcome { IsAdvanced result (request_of desk.old.client.caller.0 desk.old.client.number (call_in slip.old)) desk.new.clock stripe.new slip.old slip.new }
+    ensures looked { HasLooked (HasSeen desk.old.pools desk.new.pools) slip.new.reply }
     ensures range { desk.old.clock ≤ last_stamp }
 {
     let mut board = BoardPass::new(&shared.board, &mut desk.board);
@@ -189,6 +192,7 @@ fn advance<'a, R: Region, H: Shelf<Region = R>, B: Board, P: Pools>(
         → ((x : ℕ) → w.seen x ≡ kills_at (B.kills board.new) x)
         → Turns w (request_of client.old.caller.0 client.old.number (call_in slip.old)) clock.old clock.new result stripe.old stripe.new }
     ensures outcome { IsAdvanced result (request_of client.old.caller.0 client.old.number (call_in slip.old)) clock.new stripe.new slip.old slip.new }
+    ensures looked { HasLooked (P.Seen pools.old pools.new) slip.new.reply }
     ensures client { client.new ≡ record client.old { number = number_after result client.old.number } }
     ensures bench { bench.new ≡ bench.old }
     ensures board { B.ready board.new × B.same board.old board.new }

@@ -1,11 +1,10 @@
 -- What a board has shown it shows later, too; and what it doesn't know it didn't know earlier.
-use Rattle.std.proofs.Common.{◌≡◌, ◌⊎◌, inl, inr, ℕ, List, [], ◌∷◌, ◌++◌, All, Bool, Option, Some, None, IsSome, refl, sym, ap, ◌∙◌, subst}
-use Rattle.std.specs.Prelude.{true, false, max, IsTrue}
+use Rattle.std.proofs.Common.{◌≡◌, inl, inr, ℕ, List, [], ◌∷◌, ◌++◌, Bool, Option, Some, None, IsSome, refl, sym, ap, ◌∙◌}
+use Rattle.std.specs.Prelude.{false, max}
 use Rattle.std.specs.List.{range_with_len}
 use Rattle.cod_types.specs.declared.call.NodeId.{NodeId}
 use Rattle.cod_types.specs.declared.call.Reply.{Reply}
 use Rattle.cod_types.specs.declared.call.Reply.TheVariants as reply
-use Rattle.cod_types.specs.declared.reasons.Reason.{Reason}
 use Rattle.cod_types.specs.declared.reasons.Why.{Why}
 use Rattle.cod_types.specs.declared.reasons.Why.TheVariants as why
 use Rattle.cod_chronicle.specs.declared.entry.Entry.{Entry}
@@ -13,9 +12,9 @@ use Rattle.cod_chronicle.specs.declared.entry.Entry.TheVariants.{Down}
 use Rattle.cod_chronicle.specs.declared.entry.Cause.{Cause}
 use Rattle.cod_chronicle.specs.declared.entry.Cause.TheVariants.{Killed, Fault}
 use Rattle.cod_chronicle.specs.Event.{clock_at, IsKilledBy, IsSeenCause, IsSeenReply, IsSeenWhy, NodeKill, Kills, raised, Request, Setting}
-use Rattle.cod_chronicle.specs.Said.{clock_of, next_stamp, Site}
-use Rattle.cod_chronicle.specs.Sweep.{IsCaught, IsPassed, Sweeps}
-use Rattle.cod_seg.specs.Happens.{Happened, Happens, IsArrived, IsEntered, IsMarked, IsSilent}
+use Rattle.cod_chronicle.specs.Said.{clock_of, next_stamp}
+use Rattle.cod_chronicle.specs.Sweep.{Sweeps}
+use Rattle.cod_seg.specs.Happens.{Happened, Happens, IsArrived, IsEntered, IsMarked}
 use Rattle.cod_seg.specs.Seg.{Rebuilding, Seg, Target}
 use Rattle.cod_seg.specs.Steps.{aims, answers, applies, begins, commits, fills, Goes, goes, loses, marks, moves, notes, puts, rises, spoils, stays, Step, works}
 use Rattle.cod_segment.specs.Events.{Makes, Swept}

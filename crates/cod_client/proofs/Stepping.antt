@@ -1,16 +1,15 @@
 -- A sweep, and then the event of the next step, are one event of a client.
-use Rattle.std.proofs.Common.{◌≡◌, ℕ, ◌<◌, ◌≤◌, List, ◌++◌, length, All, Bool, Option, Some, None, IsSome, refl, sym, ap, ◌∙◌, subst, arith}
-use Rattle.std.specs.Prelude.{◌+◌, ◌^◌, true, false, option_map, IsTrue}
+use Rattle.std.proofs.Common.{◌≡◌, ℕ, ◌≤◌, List, length, Option, Some, None, IsSome, refl, sym, ap, ◌∙◌, subst, arith}
+use Rattle.std.specs.Prelude.{◌+◌, false, option_map}
 use Rattle.cod_board.specs.declared.kill.Kill.{Kill as Killed}
 use Rattle.cod_board.specs.Kills.{Keeps, kill_of}
 use Rattle.cod_types.specs.declared.call.Call.{Call as Asked}
 use Rattle.cod_chronicle.specs.Event.{NodeKill, Kills, Request, Setting}
 use Rattle.cod_chronicle.specs.Said.{numbers_by}
-use Rattle.cod_claims.specs.Slips.{Paper, prepared}
+use Rattle.cod_claims.specs.Slips.{Paper}
 use Rattle.cod_seg.specs.Next.{next_step, open_in}
 use Rattle.cod_seg.specs.Seg.{Seg}
 use Rattle.cod_seg.specs.Sound.{is_frail}
-use Rattle.cod_seg.specs.declared.next.Step.{Step as Next}
 use Rattle.cod_segment.specs.declared.asking.Outcome.{Outcome}
 use Rattle.cod_segment.specs.declared.asking.Outcome.TheVariants.{Moved, Answered, Held}
 use Rattle.cod_segment.specs.Advancing.{Follows, IsAdvanced, number_after}

@@ -7,10 +7,11 @@ ghost use Rattle.cod_chronicle.specs.Event.{Setting};
 ghost use Rattle.cod_chronicle.specs.Legal.{node_id};
 ghost use Rattle.cod_place.specs.Room.{Room};
 ghost use Rattle.cod_seg.specs.Next.{next_step};
-ghost use Rattle.cod_seg.specs.Sound.{is_frail};
+ghost use Rattle.cod_seg.specs.Sound.{is_frail, Sound};
 ghost use Rattle.cod_segment.specs.Advancing.{Follows, IsAdvanced, number_after};
 ghost use Rattle.cod_segment.specs.Events.{Balances, call_in, Costs, HasRoom, is_answered, IsAsked, IsOutcome, IsSettingOf, kills_at, Makes, NoneFails, request_of, rooms_of};
 ghost use Rattle.cod_segment.specs.Exact.{Exactly, Turns};
+ghost use Rattle.cod_segment.specs.Looks.{HasLooked};
 ghost use Rattle.cod_client.specs.Waiting.{IsGoing};
 
 use cod_board::Board;
@@ -72,6 +73,7 @@ impl Client {
             → Turns w (request_of self.old.caller.0 self.old.number (call_in slip.old)) around.old.clock.now around.new.clock.now result stripe.old stripe.new }
         ensures outcome { IsAdvanced result (request_of self.old.caller.0 self.old.number (call_in slip.old)) around.new.clock.now stripe.new slip.old slip.new }
         ensures number { self.new ≡ record self.old { number = number_after result self.old.number } }
+        ensures looked { HasLooked (P.Seen around.old.pools.now around.new.pools.now) slip.new.reply }
         ensures rooms { (rest : List Room) → P.Came around.old.pools.now (rooms_of stripe.old ++ rest) → P.Came around.new.pools.now (rooms_of stripe.new ++ rest) }
         ensures balance { Balances (P.free around.old.pools.now) (P.free around.new.pools.now) (rooms_of stripe.old) (rooms_of stripe.new) }
         ensures lent { (around.new.board.ghost_name ≡ around.old.board.ghost_name) × (around.new.pools.ghost_name ≡ around.old.pools.ghost_name)
@@ -107,6 +109,7 @@ fn go_on<R: Region, B: Board, P: Pools, H: Shelf<Region = R>, W: Rule>(
     ensures exact { (w : Setting) → ((x : ℕ) → w.known x ≡ kills_at (B.kills around.old.board.now) x)
         → Exactly w (next_step stripe.old around.old.caller.0 (call_in slip.old)) result stripe.old stripe.new }
     ensures outcome { IsAdvanced result (request_of around.old.caller.0 around.old.number (call_in slip.old)) around.new.clock.now stripe.new slip.old slip.new }
+    ensures looked { HasLooked (P.Seen around.old.pools.now around.new.pools.now) slip.new.reply }
     ensures rooms { (rest : List Room) → P.Came around.old.pools.now (rooms_of stripe.old ++ rest) → P.Came around.new.pools.now (rooms_of stripe.new ++ rest) }
     ensures balance { Balances (P.free around.old.pools.now) (P.free around.new.pools.now) (rooms_of stripe.old) (rooms_of stripe.new) }
     ensures lent { (around.new.board.ghost_name ≡ around.old.board.ghost_name) × (around.new.pools.ghost_name ≡ around.old.pools.ghost_name)
@@ -118,7 +121,12 @@ fn go_on<R: Region, B: Board, P: Pools, H: Shelf<Region = R>, W: Rule>(
 {
     match stripe.next_step(slip, around.caller) {
         Step::Held(held) => Outcome::Held(held),
-        step => event(step, slip, stripe, around),
+        step => {
+            let outcome = event(step, slip, stripe, around);
+            // that it is sound says what a reply may be
+            stripe.sound();
+            outcome
+        }
     }
 }
 
@@ -142,6 +150,7 @@ fn event<R: Region, B: Board, P: Pools, H: Shelf<Region = R>, W: Rule>(
     ensures exact { (w : Setting) → ((x : ℕ) → w.known x ≡ kills_at (B.kills around.old.board.now) x) → Exactly w step result stripe.old stripe.new }
     ensures outcome { IsOutcome result (request_of around.old.caller.0 around.old.number (call_in slip.old)) around.new.clock.now stripe.new slip.new }
     ensures costs { NoneFails stripe.old stripe.new → Costs stripe.old around.old.caller.0 (call_in slip.old) step stripe.new }
+    ensures looked { Sound stripe.new → HasLooked (P.Seen around.old.pools.now around.new.pools.now) slip.new.reply }
     ensures rooms { (rest : List Room) → P.Came around.old.pools.now (rooms_of stripe.old ++ rest) → P.Came around.new.pools.now (rooms_of stripe.new ++ rest) }
     ensures balance { Balances (P.free around.old.pools.now) (P.free around.new.pools.now) (rooms_of stripe.old) (rooms_of stripe.new) }
     ensures lent { (around.new.board.ghost_name ≡ around.old.board.ghost_name) × (around.new.pools.ghost_name ≡ around.old.pools.ghost_name)

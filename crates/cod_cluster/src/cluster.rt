@@ -2,10 +2,12 @@
 ghost use Rattle.std.specs.Prelude.{◌≡◌, ◌+◌, ◌<◌, ◌≤◌, ◌^◌, [], max, Option, IfOk, length, vec_capacity, vec_len};
 ghost use Rattle.cod_types.specs.declared.call.Call.TheVariants.{Upgrade};
 ghost use Rattle.cod_board.specs.declared.kill.Kill.{Kill as Killed};
+ghost use Rattle.cod_place.specs.Free.{HasSeen};
 ghost use Rattle.cod_claims.specs.Slips.{prepared};
 ghost use Rattle.cod_script.specs.Script.{Script};
 ghost use Rattle.cod_seg.specs.Next.{open_in};
 ghost use Rattle.cod_segment.specs.Events.{call_in};
+ghost use Rattle.cod_segment.specs.Looks.{AreLooked};
 ghost use Rattle.cod_turns.specs.Turns.{board_clock};
 ghost use Rattle.cod_accounts.specs.Working.{HasCalled, HasKilled, HasMet};
 ghost use Rattle.cod_pass.specs.States.{course_on, IsCommonOf, IsPassOf, known_by};
@@ -101,6 +103,7 @@ impl<R: Region, H: Shelf<Region = R> + Drop> Cluster<R, H> {
             → IsPassOf x (record { turns = self.now.turns.items; board = self.now.shared.board; pools = self.now.shared.pools; regions = H.regions self.now.shared.shelf }) pass.old
             → HasCalled log_of open_in (course_on x (H.regions self.now.shared.shelf)) seg.0 (call_in slip) result.position result.stamp result.reply
             (known_by pass.old) (known_by pass.new) }
+        ensures looked { AreLooked (HasSeen pass.old.pools pass.new.pools) result.reply }
         ensures segment { result.seg ≡ seg }
     {
         let at = seg.0 as usize;

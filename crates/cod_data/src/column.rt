@@ -1,5 +1,5 @@
 //! A data column.
-ghost use Rattle.std.specs.Prelude.{◌≡◌, ◌+◌, ◌<◌, ◌≤◌, ℕ, List, Some, true, IsOk, OnOk, MatchResult, length, slice_index, bit_xor};
+ghost use Rattle.std.specs.Prelude.{◌≡◌, ◌+◌, ◌<◌, ◌≤◌, ℕ, List, None, Some, true, IsOk, OnOk, MatchResult, length, slice_index, bit_xor};
 ghost use Rattle.std.specs.Option.{option_map};
 ghost use Rattle.cod_types.specs.Faults.{bump, HasCause};
 ghost use Rattle.cod_types.specs.Overwritten.{byte_of, overwritten};
@@ -80,6 +80,27 @@ impl<R: Region> DataColumn<R> {
         ensures sure { self.old.never_fails ≡ true → IsOk result }
     {
         self.region.read_at(off, into)
+    }
+
+    /// Counts a read of so many bytes from `off` on, which `lent` then gives without a copy. It fails as a read does.
+    pub fn fetch(&mut self, off: u32, len: usize) -> Result<(), Failed>
+        requires { off + len ≤ self.old.size }
+        ensures same { self.new ≡ record self.old { reads = bump self.old.reads; faults = self.new.faults } }
+        ensures cause { HasCause self.old.faults self.new.faults result }
+        ensures sure { self.old.never_fails ≡ true → IsOk result }
+    {
+        self.region.fetch(off, len)
+    }
+
+    /// The bytes from `off` on, as they are held; where no delta is kept, that is the value. It is no read: a caller has fetched
+    /// them.
+    pub fn lent(&self, off: u32, len: usize) -> &[u8]
+        requires { off + len ≤ self.now.size }
+        ensures length { length result.now ≡ len }
+        ensures bytes { Reads self.now.content off result.now }
+        ensures value { (v : ℕ → ℕ) → HasValue self.now (byte_of None) v → (x : ℕ) → x < len → slice_index result.now x ≡ v (off + x) }
+    {
+        self.region.lent(off, len)
     }
 
     /// Replaces all bytes, by one write. A write that fails may leave any bytes.

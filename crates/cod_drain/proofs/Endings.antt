@@ -30,7 +30,9 @@ use Rattle.cod_seg.proofs.Happening.{answer_ends, nothing}
 use Rattle.cod_seg.proofs.Keeping.{col_here, col_there}
 use Rattle.cod_segment.specs.declared.asking.Outcome.TheVariants.{Answered}
 use Rattle.cod_segment.specs.Events.{call_in, Counts, IsSettingOf, kills_at, Makes, request_of}
+use Rattle.cod_segment.specs.Looks.{HasLooked}
 use Rattle.cod_segment.proofs.Answering.{answered, outcome, sound_after}
+use Rattle.cod_segment.proofs.Looking.{looked_some}
 use Rattle.cod_placing.proofs.Finding.{unknown}
 use Rattle.cod_drain.specs.Copies.{MayCome, place_of}
 use Rattle.cod_drain.specs.Ends.{drain_of, Ends, Enters, IsDraining, IsServed}
@@ -109,6 +111,11 @@ clear_quiet b caller number stamp node false = refl
 pub clear_seen : (w : Setting) (over : Bool) → IsSeenReply w.seen w.may (cond over Lost Clear)
 clear_seen w true = tt
 clear_seen w false = tt
+
+-- it tells of no free bytes
+pub clear_looked : (Seen : ℕ → ℕ → Type 0) (over : Bool) (reply : Option Reply) → reply ≡ Some (cond over Lost Clear) → HasLooked Seen reply
+clear_looked Seen true reply is = looked_some Seen reply Lost is tt
+clear_looked Seen false reply is = looked_some Seen reply Clear is tt
 
 -- ---- the column moves
 

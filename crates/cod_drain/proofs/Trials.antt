@@ -26,11 +26,12 @@ use Rattle.cod_seg.proofs.Keeping.{works_keep}
 use Rattle.cod_seg.proofs.Living.{have_values}
 use Rattle.cod_segment.specs.Events.{Balances, rebuild_rooms, rooms_of}
 use Rattle.cod_segment.proofs.Balancing.{then}
+use Rattle.cod_segment.proofs.Looking.{reasons_later}
 use Rattle.cod_repair.specs.Columns.{HasValue, IsFull}
 use Rattle.cod_repair.specs.Pieces.{kept_byte}
 use Rattle.cod_repair.specs.declared.columns.ColumnFailed.{ColumnFailed}
 use Rattle.cod_placing.specs.Places.{HasNoSpare, IsFresh}
-use Rattle.cod_drain.specs.Copies.{Breaks, Falls, FailsRead, HasBytes, KeepsGoal, MayCome, MayTryAgain, place_of, read_times, Reads, Tries, WasRead, with_faults}
+use Rattle.cod_drain.specs.Copies.{Breaks, Falls, FailsRead, HasBytes, HasSought, KeepsGoal, MayCome, MayTryAgain, place_of, read_times, Reads, Tries, WasRead, with_faults}
 use Rattle.cod_drain.specs.Ends.{IsServed}
 use Rattle.cod_drain.specs.Plans.{IsPlan}
 use Rattle.cod_drain.specs.declared.plan.Plan.{Plan}
@@ -234,6 +235,14 @@ may_again p broken again kills t times s u v w sound fresh honest read breaks be
       unsure_frail frail node v sure unsure = elim (cases_Bool (is_frail frail node)) [ inl is ↦ is | inr not ↦ absurd (unsure (sure not)) ]
 
 -- ---- try after try
+
+-- what was seen in a try was seen in all of them
+pub sought_later : {R : Type 0} (Seen Later : ℕ → ℕ → Type 0) → ((node bytes : ℕ) → Seen node bytes → Later node bytes) → (reasons : List Reason) (x : Tried R)
+    → HasSought Seen reasons x → HasSought Later reasons x
+sought_later Seen Later wider reasons (Copied goal) sought = tt
+sought_later Seen Later wider reasons Failed sought = tt
+sought_later Seen Later wider reasons NoSpare sought = reasons_later Seen Later wider reasons sought
+sought_later Seen Later wider reasons NoMemory sought = tt
 
 pub keeps_kills : (a b c : List (Option Killed)) → Keeps a b → Keeps b c → Keeps a c
 keeps_kills a b c first then_ node some = then_ node (subst IsSome (sym (first node some)) some) ∙ first node some

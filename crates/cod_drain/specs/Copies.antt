@@ -1,5 +1,5 @@
 -- What it comes to when a live column is copied to another region.
-use Rattle.std.specs.Prelude.{◌≡◌, ℕ, ◌<◌, ◌≤◌, List, [], ◌∷◌, ◌++◌, slice_index, slice_set, Option, Some, None, is_some, true, false}
+use Rattle.std.specs.Prelude.{◌≡◌, ℕ, ◌<◌, ◌≤◌, All, List, [], ◌∷◌, ◌++◌, slice_index, slice_set, Option, Some, None, is_some, true, false}
 use Rattle.cod_types.specs.Faults.{grown}
 use Rattle.cod_chronicle.specs.declared.entry.Cause.TheVariants.{Fault}
 use Rattle.cod_chronicle.specs.declared.entry.Entry.TheVariants.{Down}
@@ -16,6 +16,7 @@ use Rattle.cod_seg.specs.Sound.{AreBroken, is_frail}
 use Rattle.cod_seg.specs.Steps.{IsPlace, Place}
 use Rattle.cod_repair.specs.Columns.{IsFull}
 use Rattle.cod_repair.specs.declared.columns.ColumnFailed.{ColumnFailed}
+use Rattle.cod_segment.specs.Looks.{IsLooked}
 use Rattle.cod_placing.specs.Places.{HasNoSpare}
 use Rattle.cod_drain.specs.declared.copying.CopyFailed.{CopyFailed}
 use Rattle.cod_drain.specs.declared.copying.CopyFailed.TheVariants.{Old, New}
@@ -124,6 +125,11 @@ module _ {R : Type 0} where
   Tries p kills reasons t after s u Failed = Falls p.col t after s u
   Tries p kills reasons t after s u NoSpare = Reads p.col t after s u × HasNoSpare s p.col kills reasons
   Tries p kills reasons t after s u NoMemory = Reads p.col t after s u
+
+  -- Where no node is a spare, each number of free bytes among the reasons was seen.
+  abbrev pub HasSought : (Seen : ℕ → ℕ → Type 0) → List Reason → Tried R → Type 0
+  HasSought Seen reasons NoSpare = All (λ r. IsLooked Seen r.node.0 r.why) reasons
+  HasSought Seen reasons _ = Unit {0}
 
   -- the room of a target that is at hand
   abbrev pub rooms_at : Tried R → List Room

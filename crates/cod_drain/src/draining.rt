@@ -10,6 +10,7 @@ ghost use Rattle.cod_seg.specs.Sound.{is_frail, Sound};
 ghost use Rattle.cod_seg.specs.declared.next.Step.TheVariants as step;
 ghost use Rattle.cod_segment.specs.Events.{Balances, call_in, Costs, HasRoom, is_answered, IsAsked, IsOutcome, IsSettingOf, kills_at, Makes, NoneFails, request_of, rooms_of};
 ghost use Rattle.cod_segment.specs.Exact.{Exactly};
+ghost use Rattle.cod_segment.specs.Looks.{HasLooked};
 ghost use Rattle.cod_types.specs.declared.call.Call.TheVariants.{Drain};
 ghost use Rattle.cod_types.specs.declared.call.NodeId.{NodeId as Node};
 
@@ -77,6 +78,7 @@ pub fn drain<R: Region, B: Board, P: Pools, H: Shelf<Region = R>, W: Rule>(
         → Makes w (request_of asker.caller.0 asker.number (call_in slip.old)) clock.old clock.new (is_answered result) segment.old segment.new }
     ensures exact { (w : Setting) → ((x : ℕ) → w.known x ≡ kills_at (B.kills board.old) x) → Exactly w step.Drain result segment.old segment.new }
     ensures outcome { IsOutcome result (request_of asker.caller.0 asker.number (call_in slip.old)) clock.new segment.new slip.new }
+    ensures looked { HasLooked (P.Seen pools.old pools.new) slip.new.reply }
     ensures costs { NoneFails segment.old segment.new → Costs segment.old asker.caller.0 (call_in slip.old) step.Drain segment.new }
     ensures rooms { (rest : List Room) → P.Came pools.old (rooms_of segment.old ++ rest) → P.Came pools.new (rooms_of segment.new ++ rest) }
     ensures balance { Balances (P.free pools.old) (P.free pools.new) (rooms_of segment.old) (rooms_of segment.new) }

@@ -11,9 +11,10 @@ ghost use Rattle.cod_seg.specs.Seg.{col_at, with_col};
 ghost use Rattle.cod_seg.specs.Sound.{Sound};
 ghost use Rattle.cod_seg.specs.Steps.{IsPlace, placed_col};
 ghost use Rattle.cod_segment.specs.Events.{Balances, call_in, request_of, rooms_of};
+ghost use Rattle.cod_segment.specs.Looks.{HasLooked};
 ghost use Rattle.cod_segment.specs.declared.asking.Outcome.TheVariants.{Answered};
 ghost use Rattle.cod_types.specs.declared.call.Reply.TheVariants.{Clear, Lost};
-ghost use Rattle.cod_drain.specs.Copies.{place_of, rooms_at};
+ghost use Rattle.cod_drain.specs.Copies.{HasSought, place_of, rooms_at};
 ghost use Rattle.cod_drain.specs.Ends.{Ends, Enters, IsDraining, IsServed, MayEnd};
 ghost use Rattle.cod_drain.specs.Plans.{IsPlan};
 
@@ -183,6 +184,7 @@ pub(crate) fn finish<R: Region, P: Pools>(
     requires ready { P.ready pools.old }
     ensures ends { (before now : List (Option Killed)) → Keeps before now → MayEnd plan now reasons segment.old tried
         → Ends plan.col before now (request_of asker.caller.0 asker.number (call_in slip.old)) clock.old clock.new result segment.old segment.new slip.new }
+    ensures looked { (since : _) → HasSought (P.Seen since pools.old) reasons tried → HasLooked (P.Seen since pools.new) slip.new.reply }
     ensures came { (rest : List Stay) → P.Came pools.old (rooms_at tried ++ (rooms_of segment.old ++ rest)) → P.Came pools.new (rooms_of segment.new ++ rest) }
     ensures balance { Balances (P.free pools.old) (P.free pools.new) (rooms_at tried ++ rooms_of segment.old) (rooms_of segment.new) }
     ensures pools { (P.nodes pools.new ≡ P.nodes pools.old) × P.ready pools.new × P.same pools.old pools.new }

@@ -1,12 +1,12 @@
 //! A live column is copied to a spare node.
 
-ghost use Rattle.std.specs.Prelude.{◌≡◌, ℕ, ◌+◌, ◌<◌, ◌^◌, ◌++◌, ◌∷◌, [], List, MatchOption, Some, None, length, true, false};
+ghost use Rattle.std.specs.Prelude.{◌≡◌, ℕ, ◌+◌, ◌<◌, ◌^◌, ◌++◌, ◌∷◌, [], IfSome, List, MatchOption, Some, None, length, true, false};
 ghost use Rattle.cod_board.specs.Kills.{Keeps};
 ghost use Rattle.cod_chronicle.specs.Legal.{node_id};
 ghost use Rattle.cod_place.specs.Room.{Room};
 ghost use Rattle.cod_seg.specs.Sound.{AreBroken, is_frail, Sound};
 ghost use Rattle.cod_segment.specs.Events.{Balances, rooms_of};
-ghost use Rattle.cod_drain.specs.Copies.{MayTryAgain, rooms_at, rooms_of_try, Tries};
+ghost use Rattle.cod_drain.specs.Copies.{HasSought, MayTryAgain, rooms_at, rooms_of_try, Tries};
 ghost use Rattle.cod_drain.specs.Ends.{IsServed};
 ghost use Rattle.cod_drain.specs.Plans.{IsPlan};
 
@@ -69,6 +69,7 @@ fn try_once<R: Region, B: Board, P: Pools, H: Shelf<Region = R>>(
     requires room { length segment.old.log + 1 < 2 ^ 63 }
     ensures tried { MatchOption result (MayTryAgain plan.col broken.old broken.new clock.old clock.new segment.old segment.new)
         (λ t. Tries plan (B.kills board.new) reasons.new clock.old clock.new segment.old segment.new t) }
+    ensures looked { IfSome result (λ t. HasSought (P.Seen pools.old pools.new) reasons.new t) }
     ensures rooms { (rest : List Room) → P.Came pools.old rest → P.Came pools.new (rooms_of_try result ++ rest) }
     ensures balance { Balances (P.free pools.old) (P.free pools.new) [] (rooms_of_try result) }
     ensures pools { (P.nodes pools.new ≡ P.nodes pools.old) × P.ready pools.new × P.same pools.old pools.new }
@@ -119,6 +120,7 @@ pub(crate) fn copy_away<R: Region, B: Board, P: Pools, H: Shelf<Region = R>>(
     requires bench { bench.old ≡ segment.old.site.shape }
     requires room { length segment.old.log + 1 < 2 ^ 63 }
     ensures tried { Tries plan (B.kills board.new) reasons.new clock.old clock.new segment.old segment.new result }
+    ensures looked { HasSought (P.Seen pools.old pools.new) reasons.new result }
     ensures rooms { (rest : List Room) → P.Came pools.old rest → P.Came pools.new (rooms_at result ++ rest) }
     ensures balance { Balances (P.free pools.old) (P.free pools.new) [] (rooms_at result) }
     ensures pools { (P.nodes pools.new ≡ P.nodes pools.old) × P.ready pools.new × P.same pools.old pools.new }

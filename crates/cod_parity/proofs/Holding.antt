@@ -1,5 +1,5 @@
 -- How the calls of a parity column and a commit keep what it holds.
-use Rattle.std.proofs.Common.{◌≡◌, ◌≢◌, ℕ, ◌+◌, ◌<◌, ◌≤◌, List, [], ◌∷◌, ◌++◌, get_or, refl, sym, ap, ◌∙◌, inl, inr, bit_xor, arith, Some, None, Option, Result, Ok, Err}
+use Rattle.std.proofs.Common.{◌≡◌, ◌≢◌, ℕ, ◌+◌, ◌<◌, ◌≤◌, List, [], ◌∷◌, ◌++◌, length, get_or, refl, sym, ap, ◌∙◌, inl, inr, bit_xor, arith, Some, None, Option, Result, Ok, Err}
 use Rattle.std.proofs.lemmas.Bool.{cases_lt, cases_eq, lt-ltb, le-ltb, eq-eqb, ne_eqb}
 use Rattle.std.proofs.lemmas.List.{append-nil}
 use Rattle.std.proofs.lemmas.List.Elements.{filter-append}
@@ -7,10 +7,12 @@ use Rattle.std.specs.Int.Bits.{xor_zero_l, xor_zero_r, xor_assoc}
 use Rattle.std.specs.List.{filter}
 use Rattle.std.specs.Result.{MatchResult, OnOk}
 use Rattle.cod_types.specs.Limits.{Shape}
+use Rattle.cod_region.specs.Device.{Reads}
 use Rattle.cod_parity.specs.Log.{change, IsDue, is_past, IsIncluded, IsValue, Logged, share}
 use Rattle.cod_parity.specs.State.{Means, State}
 use Rattle.cod_parity.specs.Calls.{Appends, Merges}
 use Rattle.cod_parity.proofs.Lowest.{not_due}
+use Rattle.cod_parity.proofs.Meaning.{read_plain}
 use Rattle.cod_parity.specs.Held.{AreInFlight, HasValue, Holds, is_pending, IsPiece, no_pieces, Piece, with_piece}
 use Rattle.cod_parity.proofs.Records.{share_past}
 
@@ -80,6 +82,13 @@ pub read_value : {E T : Type 0} (result : Result T E) (cuts : List ℕ) (s : Sta
     → OnOk result ((x : ℕ) → x < n → get_or into x 0 ≡ v (off + x))
 read_value (Ok u) cuts s v into off n inside value h = λ x within. value h.holds.base h.holds.records h.holds.means x within ∙ h.holds.value_is (off + x) (omega (arith, inside, within))
 read_value (Err e) cuts s v into off n inside value h = tt
+
+-- bytes of the block as they are held, where there is no record
+pub lent_value : (cuts : List ℕ) (s : State) (v : ℕ → ℕ) (bytes : List ℕ) (off n : ℕ) → length bytes ≡ n → off + n ≤ s.shape.block → s.used ≡ 0
+    → Reads s.device.content off bytes → HasValue s cuts v → (x : ℕ) → x < n → get_or bytes x 0 ≡ v (off + x)
+lent_value cuts s v bytes off n size inside none read h x within =
+    read_plain cuts s h.holds.base h.holds.records bytes off h.holds.means none (omega (arith, size, inside)) read x (omega (arith, size, within))
+    ∙ h.holds.value_is (off + x) (omega (arith, inside, within))
 
 -- a column of no record holds its base
 pub empty_holds : (cuts base : List ℕ) (s : State) → Means s base [] → Holds s cuts (λ x. get_or base x 0) no_pieces

@@ -230,6 +230,30 @@ impl<R: Region> ParityColumn<R> {
         Ok(())
     }
 
+    /// Counts a read of so many bytes of the block from `off` on, which `lent` then gives without a copy. It fails as a read
+    /// does.
+    pub fn fetch(&mut self, off: u32, len: usize) -> Result<(), Failed>
+        requires inside { off + len ≤ self.old.shape.block }
+        ensures holds { (cuts : List ℕ) (v : ℕ → ℕ) (p : ℕ → Option Piece) → Holds self.old cuts v p → Holds self.new cuts v p }
+        ensures same { FailsRead self.old self.new }
+        ensures cause { HasCause self.old.device.faults self.new.device.faults result }
+        ensures sure { self.old.device.never_fails ≡ true → IsOk result }
+    {
+        self.region.fetch(off, len)
+    }
+
+    /// The bytes of the block from `off` on, as they are held; where there is no record, that is the value. It is no read: a
+    /// caller has fetched them.
+    pub fn lent(&self, off: u32, len: usize) -> &[u8]
+        requires inside { off + len ≤ self.now.shape.block }
+        ensures length { length result.now ≡ len }
+        ensures bytes { Reads self.now.device.content off result.now }
+        ensures value { self.now.used ≡ 0 → (cuts : List ℕ) (v : ℕ → ℕ) → HasValue self.now cuts v
+            → (x : ℕ) → x < len → slice_index result.now x ≡ v (off + x) }
+    {
+        self.region.lent(off, len)
+    }
+
     /// Brings the block and the log behind it into `into` as they are held, by one read. A read that fails may leave any bytes
     /// in `into`.
     pub fn copy_out(&mut self, into: &mut [u8]) -> Result<(), Failed>

@@ -30,6 +30,8 @@ use Rattle.cod_seg.proofs.Happening.{nothing as nothing_open}
 use Rattle.cod_seg.proofs.Targets.{aims_keep}
 use Rattle.cod_segment.specs.Events.{Costs, Counts, CountsRebuild, IsOutcome, IsSettingOf, kills_at, Makes, rebuild_rooms, request_of, rooms_of}
 use Rattle.cod_segment.specs.Exact.{Aimed, Stays}
+use Rattle.cod_segment.specs.Looks.{HasLooked, IsLooked}
+use Rattle.cod_segment.proofs.Looking.{looked_some}
 use Rattle.cod_segment.specs.declared.asking.Outcome.TheVariants.{Answered}
 use Rattle.cod_placing.specs.declared.placing.Missing.{Missing}
 use Rattle.cod_placing.specs.declared.placing.Missing.TheVariants.{Memory, Spare}
@@ -227,6 +229,12 @@ outcome_end s u caller number stamp position call reply p idle at becomes told =
   refl,
   (s.log, Call caller number stamp call reply, ap (λ (x : Seg). x.log) becomes, at, rw told refl),
 )
+
+-- what the reply tells of free bytes was seen
+pub vain_looked : (Seen : ℕ → ℕ → Type 0) (missing : Missing) (reasons : List Reason) (reply : Option Reply) → reply ≡ Some (vain missing reasons)
+    → (missing ≡ Spare → All (λ (r : Reason). IsLooked Seen r.node.0 r.why) reasons) → HasLooked Seen reply
+vain_looked Seen Spare reasons reply is seen = looked_some Seen reply (vain Spare reasons) is (seen refl)
+vain_looked Seen Memory reasons reply is seen = looked_some Seen reply (vain Memory reasons) is tt
 
 -- ---- the segment with its rebuild, in which the place was looked for
 

@@ -33,6 +33,7 @@ use Rattle.cod_seg.specs.Sound.{AreBroken, is_frail, Sound}
 use Rattle.cod_segment.specs.Events.{IsSettingOf, kills_at, rebuild_rooms, rooms_of}
 use Rattle.cod_segment.specs.Events.{Balances}
 use Rattle.cod_segment.proofs.Balancing.{balanced, then}
+use Rattle.cod_segment.specs.Looks.{IsLooked}
 use Rattle.cod_placing.specs.Places.{HasNoSpare, IsFirst, IsFresh}
 
 -- ---- the board
@@ -183,6 +184,17 @@ seen_why s w bytes node broken kills Seen (Down line) honest setting seen r = by
   )
 seen_why s w bytes node broken kills Seen (Free n) honest setting seen r = tt
 seen_why s w bytes node broken kills Seen (Fault count) honest setting seen r = (r.1, setting.may node (honest node count r.0).1)
+
+why_looked : (bytes node : ℕ) (broken : List (Option ℕ)) (kills : List (Option Killed)) (Seen : ℕ → ℕ → Type 0) (why : Why) → Refuses bytes broken kills Seen node why → IsLooked Seen node why
+why_looked bytes node broken kills Seen (Down line) r = tt
+why_looked bytes node broken kills Seen (Free n) r = r.3
+why_looked bytes node broken kills Seen (Fault count) r = tt
+
+-- What refuses for its free bytes was seen with so many.
+pub whys_looked : (bytes : ℕ) (broken : List (Option ℕ)) (kills : List (Option Killed)) (Seen : ℕ → ℕ → Type 0) (reasons : List Reason)
+    → All (λ (passed : Reason). Refuses bytes broken kills Seen passed.node.0 passed.why) reasons → All (λ (r : Reason). IsLooked Seen r.node.0 r.why) reasons
+whys_looked bytes broken kills Seen reasons all =
+    All-weaker (λ (r : Reason). Refuses bytes broken kills Seen r.node.0 r.why) (λ (r : Reason). IsLooked Seen r.node.0 r.why) (λ r. why_looked bytes r.node.0 broken kills Seen r.why) reasons all
 
 -- Where each candidate refuses, there is no spare.
 pub none_fits : (s : Seg) (col after taken bytes : ℕ) (broken : List (Option ℕ)) (kills : List (Option Killed)) (Seen : ℕ → ℕ → Type 0) (reasons : List Reason) → Sound s → IsSearch s col after taken

@@ -1,12 +1,13 @@
 //! A place for a column on a spare node.
 
-ghost use Rattle.std.specs.Prelude.{◌≡◌, ◌<◌, ◌≤◌, ◌++◌, ◌∷◌, ℕ, List, [], IfErr, IfOk, false, length, true};
+ghost use Rattle.std.specs.Prelude.{◌≡◌, ◌<◌, ◌≤◌, ◌++◌, ◌∷◌, ℕ, List, [], All, IfErr, IfOk, false, length, true};
 ghost use Rattle.cod_types.specs.Columns.{column_size};
 ghost use Rattle.cod_chronicle.specs.Legal.{node_id};
 ghost use Rattle.cod_board.specs.Kills.{Keeps};
 ghost use Rattle.cod_place.specs.Room.{Room};
 ghost use Rattle.cod_seg.specs.Sound.{AreBroken, is_frail, Sound};
 ghost use Rattle.cod_segment.specs.Events.{Balances, rooms_of};
+ghost use Rattle.cod_segment.specs.Looks.{IsLooked};
 ghost use Rattle.cod_placing.specs.Places.{HasNoSpare, HasSpare, IsFirst, IsFresh, rooms_in};
 ghost use Rattle.cod_placing.specs.declared.placing.Missing.TheVariants.{Memory, Spare};
 
@@ -50,6 +51,7 @@ pub fn place_for<R: Region, B: Board, P: Pools, H: Shelf<Region = R>>(
     ensures found { IfOk result (λ t. IsFresh segment.now bytes broken.now (B.kills board.new) t) }
     ensures first { IfOk result (λ t. IsFirst segment.now col reasons.new t.room.node.0) }
     ensures missing { IfErr result (λ e. e ≡ Spare → HasNoSpare segment.now col (B.kills board.new) reasons.new) }
+    ensures looked { IfErr result (λ e. e ≡ Spare → All (λ r. IsLooked (P.Seen pools.old pools.new) r.node.0 r.why) reasons.new) }
     ensures memory { IfErr result (λ e. e ≡ Memory → HasSpare segment.now col broken.now (B.kills board.new) reasons.new) }
     ensures rooms { (rest : List Room) → P.Came pools.old rest → P.Came pools.new (rooms_in result ++ rest) }
     ensures balance { Balances (P.free pools.old) (P.free pools.new) [] (rooms_in result) }

@@ -15,6 +15,7 @@ ghost use Rattle.cod_seg.specs.Sound.{is_frail, Sound};
 ghost use Rattle.cod_seg.specs.declared.next.Step.TheVariants as step;
 ghost use Rattle.cod_segment.specs.Events.{Balances, call_in, Costs, HasRoom, is_answered, IsAsked, IsOutcome, IsSettingOf, kills_at, Makes, NoneFails, request_of, rooms_of};
 ghost use Rattle.cod_segment.specs.Exact.{Exactly};
+ghost use Rattle.cod_segment.specs.Looks.{HasLooked, IsLooked};
 ghost use Rattle.cod_segment.specs.declared.asking.Outcome.TheVariants.{Answered};
 ghost use Rattle.cod_placing.specs.Places.{HasNoSpare, IsFresh, rooms_in};
 ghost use Rattle.cod_placing.specs.Starts.{chosen, slip_for, vain};
@@ -55,6 +56,7 @@ pub fn rebuild_start<R: Region, B: Board, P: Pools, H: Shelf<Region = R>>(
         → Makes w (request_of asker.caller.0 asker.number (call_in slip.old)) clock.old clock.new (is_answered result) segment.old segment.new }
     ensures exact { (w : Setting) → ((x : ℕ) → w.known x ≡ kills_at (B.kills board.old) x) → Exactly w step.RebuildStart result segment.old segment.new }
     ensures outcome { IsOutcome result (request_of asker.caller.0 asker.number (call_in slip.old)) clock.new segment.new slip.new }
+    ensures looked { HasLooked (P.Seen pools.old pools.new) slip.new.reply }
     ensures costs { NoneFails segment.old segment.new → Costs segment.old asker.caller.0 (call_in slip.old) step.RebuildStart segment.new }
     ensures rooms { (rest : List Room) → P.Came pools.old (rooms_of segment.old ++ rest) → P.Came pools.new (rooms_of segment.new ++ rest) }
     ensures balance { Balances (P.free pools.old) (P.free pools.new) (rooms_of segment.old) (rooms_of segment.new) }
@@ -115,6 +117,7 @@ fn place_for_rebuild<R: Region, B: Board, P: Pools, H: Shelf<Region = R>>(
         → IfOk result (λ t. IsFresh segment.now (column_size segment.now.site.shape r.col) r.broken (B.kills board.new) t) }
     ensures missing { (r : Rebuilding) → segment.now.rebuild ≡ Some r
         → IfErr result (λ e. e ≡ Spare → HasNoSpare segment.now r.col (B.kills board.new) reasons.new) }
+    ensures looked { IfErr result (λ e. e ≡ Spare → All (λ r. IsLooked (P.Seen pools.old pools.new) r.node.0 r.why) reasons.new) }
     ensures rooms { (rest : List Room) → P.Came pools.old rest → P.Came pools.new (rooms_in result ++ rest) }
     ensures balance { Balances (P.free pools.old) (P.free pools.new) [] (rooms_in result) }
     ensures pools { (P.nodes pools.new ≡ P.nodes pools.old) × P.ready pools.new × P.same pools.old pools.new }

@@ -1,6 +1,6 @@
 //! Calls that are lost.
 
-ghost use Rattle.std.specs.Prelude.{◌≡◌, ◌++◌, List};
+ghost use Rattle.std.specs.Prelude.{◌≡◌, ◌++◌, List, Some};
 ghost use Rattle.cod_chronicle.specs.Event.{Setting};
 ghost use Rattle.cod_place.specs.Room.{Room};
 ghost use Rattle.cod_recovery.specs.Leaving.{left_by};
@@ -9,6 +9,7 @@ ghost use Rattle.cod_seg.specs.Sound.{Sound};
 ghost use Rattle.cod_seg.specs.declared.next.Step.TheVariants as step;
 ghost use Rattle.cod_segment.specs.Events.{Balances, call_in, Costs, HasRoom, is_answered, IsAsked, IsOutcome, IsSettingOf, Makes, NoneFails, rebuild_rooms, request_of, rooms_of};
 ghost use Rattle.cod_segment.specs.Exact.{Exactly};
+ghost use Rattle.cod_types.specs.declared.call.Reply.TheVariants.{Lost};
 
 use cod_claims::Slip;
 use cod_place::Pools;
@@ -34,6 +35,7 @@ pub fn lost<R: Region, P: Pools>(
         → Makes w (request_of asker.caller.0 asker.number (call_in slip.old)) clock.old clock.new (is_answered result) segment.old segment.new }
     ensures exact { (w : Setting) → Exactly w step.Lost result segment.old segment.new }
     ensures outcome { IsOutcome result (request_of asker.caller.0 asker.number (call_in slip.old)) clock.new segment.new slip.new }
+    ensures told { slip.new.reply ≡ Some Lost }
     ensures costs { NoneFails segment.old segment.new → Costs segment.old asker.caller.0 (call_in slip.old) step.Lost segment.new }
     ensures rooms { (rest : List Room) → P.Came pools.old (rooms_of segment.old ++ rest) → P.Came pools.new (rooms_of segment.new ++ rest) }
     ensures balance { Balances (P.free pools.old) (P.free pools.new) (rooms_of segment.old) (rooms_of segment.new) }

@@ -1,16 +1,17 @@
 //! The end of a rebuild.
 
-ghost use Rattle.std.specs.Prelude.{◌≡◌, ◌<◌, ◌++◌, ◌∷◌, [], List, length};
+ghost use Rattle.std.specs.Prelude.{◌≡◌, ◌<◌, ◌++◌, ◌∷◌, [], List, Some, length};
 ghost use Rattle.cod_types.specs.Columns.{column_size};
 ghost use Rattle.cod_chronicle.specs.Event.{Setting};
 ghost use Rattle.cod_place.specs.Room.{Room};
 ghost use Rattle.cod_seg.specs.Next.{next_step};
-ghost use Rattle.cod_seg.specs.Seg.{col_at, with_col};
+ghost use Rattle.cod_seg.specs.Seg.{col_at, Rebuilding, Target as Goal, with_col};
 ghost use Rattle.cod_seg.specs.Sound.{Sound};
 ghost use Rattle.cod_seg.specs.Steps.{placed_col, risen};
 ghost use Rattle.cod_seg.specs.declared.next.Step.TheVariants as step;
 ghost use Rattle.cod_segment.specs.Events.{Balances, call_in, Costs, HasRoom, is_answered, IsAsked, IsOutcome, IsSettingOf, Makes, NoneFails, request_of, rooms_of};
 ghost use Rattle.cod_segment.specs.Exact.{Exactly};
+ghost use Rattle.cod_types.specs.declared.call.Reply.TheVariants.{Rebuilt};
 
 use cod_chronicle::{Entry, Link};
 use cod_claims::Slip;
@@ -39,6 +40,7 @@ pub fn rebuild_end<R: Region, P: Pools>(
         → Makes w (request_of asker.caller.0 asker.number (call_in slip.old)) clock.old clock.new (is_answered result) segment.old segment.new }
     ensures exact { (w : Setting) → Exactly w step.RebuildEnd result segment.old segment.new }
     ensures outcome { IsOutcome result (request_of asker.caller.0 asker.number (call_in slip.old)) clock.new segment.new slip.new }
+    ensures told { (r : Rebuilding) × (t : Goal) × (segment.old.rebuild ≡ Some r) × (r.target ≡ Some t) × (slip.new.reply ≡ Some (Rebuilt r.col t.room.node)) }
     ensures costs { NoneFails segment.old segment.new → Costs segment.old asker.caller.0 (call_in slip.old) step.RebuildEnd segment.new }
     ensures rooms { (rest : List Room) → P.Came pools.old (rooms_of segment.old ++ rest) → P.Came pools.new (rooms_of segment.new ++ rest) }
     ensures balance { Balances (P.free pools.old) (P.free pools.new) (rooms_of segment.old) (rooms_of segment.new) }

@@ -87,6 +87,24 @@ impl Region for FaultyRegion {
         self.held.read_at(off, into)
     }
 
+    fn fetch(&mut self, off: u32, len: usize) -> Result<(), Failed>
+        requires { off + len ≤ length self.old.held.bytes }
+        ensures cause { HasCause self.old.faults self.new.faults result }
+
+        ensures listed { IsErr result ↔ IsTrue (is_due self.old) }
+        ensures state { self.new ≡ record (called self.old) { held = record self.old.held { reads = bump self.old.held.reads } } }
+    {
+        if self.fails_next() {
+            self.held.count_read();
+            return Err(Failed);
+        }
+        self.held.fetch(off, len)
+    }
+
+    fn lent(&self, off: u32, len: usize) -> &[u8] {
+        self.held.lent(off, len)
+    }
+
     fn write_at(&mut self, off: u32, from: &[u8]) -> Result<(), Failed>
         requires { off + length from.now ≤ length self.old.held.bytes }
         ensures cause { HasCause self.old.faults self.new.faults result }

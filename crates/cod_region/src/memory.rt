@@ -90,6 +90,16 @@ impl Region for MemRegion {
         Ok(())
     }
 
+    fn fetch(&mut self, _off: u32, _len: usize) -> Result<(), Failed> {
+        self.count_read();
+        Ok(())
+    }
+
+    fn lent(&self, off: u32, len: usize) -> &[u8] {
+        let off = off as usize;
+        &self.bytes[off..off + len]
+    }
+
     fn write_at(&mut self, off: u32, from: &[u8]) -> Result<(), Failed> {
         self.count_write();
         let off = off as usize;

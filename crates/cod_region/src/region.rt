@@ -21,7 +21,7 @@ pub trait Region: Drop {
     fn len(&self) -> u32
         ensures { result ≡ (device self.now).size };
 
-    /// How many calls of `read_at` there were, up to the end of `u64`.
+    /// How many calls of `read_at` and of `fetch` there were, up to the end of `u64`.
     fn reads(&self) -> u64
         ensures { result ≡ (device self.now).reads };
 
@@ -39,6 +39,18 @@ pub trait Region: Drop {
         ensures bytes { OnOk result (Reads (device self.old).content off into.new) }
         ensures same { device self.new ≡ record (device self.old) { reads = bump (device self.old).reads; faults = (device self.new).faults } }
         ensures cause { HasCause (device self.old).faults (device self.new).faults result };
+
+    /// Counts a read of so many bytes from `off` on, which `lent` then gives without a copy. It fails as a read does.
+    fn fetch(&mut self, off: u32, len: usize) -> Result<(), Failed>
+        requires { off + len ≤ (device self.old).size }
+        ensures same { device self.new ≡ record (device self.old) { reads = bump (device self.old).reads; faults = (device self.new).faults } }
+        ensures cause { HasCause (device self.old).faults (device self.new).faults result };
+
+    /// The bytes from `off` on, as they are held. It is no call of the device: a caller has fetched them.
+    fn lent(&self, off: u32, len: usize) -> &[u8]
+        requires { off + len ≤ (device self.now).size }
+        ensures length { length result.now ≡ len }
+        ensures bytes { Reads (device self.now).content off result.now };
 
     /// Replaces the bytes from `off` on by those of `from`. A call that fails may leave any bytes in their place, and
     /// changes no other.

@@ -33,6 +33,26 @@ fn fails_at_the_listed_calls(rt: HostRuntime) -> Result<(), Fail> {
     Ok(())
 }
 
+/// The two bytes from place 1 on, where they can be fetched.
+fn fetched<R: Region>(region: &mut R) -> Option<&[u8]> {
+    if region.len() != 4 || region.fetch(1, 2).is_err() {
+        return None;
+    }
+    Some(region.lent(1, 2))
+}
+
+#[test]
+fn lends_what_was_fetched(rt: HostRuntime) -> Result<(), Fail> {
+    // a fetch is counted among the calls, and fails where it is the listed one
+    let shelf = FaultyShelf::new(rt.alloc(), &[(NodeId(0), 5)])?;
+    let mut region = shelf.region(rt.alloc(), NodeId(0), 4)?;
+    assert!(rt; failed(&mut region) == [false; 4]);
+    assert!(rt; fetched(&mut region) == Some(b"bc"));
+    assert!(rt; fetched(&mut region).is_none());
+    assert!(rt; region.reads() == 3 && region.faults() == 1);
+    Ok(())
+}
+
 #[test]
 fn in_memory(rt: HostRuntime) -> Result<(), Fail> {
     let shelf = MemShelf::new();

@@ -58,6 +58,14 @@ impl<R: Region> Region for Untold<R> {
         self.held.read_at(off, into)
     }
 
+    fn fetch(&mut self, off: u32, len: usize) -> Result<(), Failed> {
+        self.held.fetch(off, len)
+    }
+
+    fn lent(&self, off: u32, len: usize) -> &[u8] {
+        self.held.lent(off, len)
+    }
+
     fn write_at(&mut self, off: u32, from: &[u8]) -> Result<(), Failed> {
         self.held.write_at(off, from)
     }

@@ -65,15 +65,16 @@ parts_long xs k block long a zero le m d lt = absurd (omega arith)
 parts_long xs k block long a (suc n) le zero d lt = part_length xs k a block long (omega arith)
 parts_long xs k block long a (suc n) le (suc m) d lt = parts_long xs k block long (a + 1) n (omega arith) m d (omega arith)
 
+-- lists behind references are as long as they are
+pub behind_long : (n : ℕ) (sources : List (Bor (List ℕ))) → AllLong n (map (λ (s : Bor (List ℕ)). s.now) sources) → All (λ (s : Bor (List ℕ)). length s.now ≡ n) sources
+behind_long n [] h m d lt = absurd (omega arith)
+behind_long n (s ∷ sources) h zero d lt = h zero [] (omega arith)
+behind_long n (s ∷ sources) h (suc m) d lt = behind_long n sources (λ k e l. h (suc k) e (omega arith)) m d (omega arith)
+
 -- each of the sources is as long as a block
 pub sources_long : (xs : List ℕ) (k block : ℕ) (sources : List (Bor (List ℕ))) → k * block ≤ length xs
     → map (λ (s : Bor (List ℕ)). s.now) sources ≡ map (part block xs) (range_with_len 0 k) → All (λ (s : Bor (List ℕ)). length s.now ≡ block) sources
-sources_long xs k block sources long are = unmapped block sources (rw are (parts_long xs k block long 0 k (omega arith)))
-  where
-    unmapped : (n : ℕ) (sources : List (Bor (List ℕ))) → AllLong n (map (λ (s : Bor (List ℕ)). s.now) sources) → All (λ (s : Bor (List ℕ)). length s.now ≡ n) sources
-    unmapped n [] h m d lt = absurd (omega arith)
-    unmapped n (s ∷ sources) h zero d lt = h zero [] (omega arith)
-    unmapped n (s ∷ sources) h (suc m) d lt = unmapped n sources (λ k e l. h (suc k) e (omega arith)) m d (omega arith)
+sources_long xs k block sources long are = behind_long block sources (rw are (parts_long xs k block long 0 k (omega arith)))
 
 -- the sum of the data blocks by a column's row is the column
 pub encoded : (k block i : ℕ) (segment into : List ℕ) (row : List ℕ) (sources : List (List ℕ)) → k ≤ 16 → length into ≡ block → row ≡ row_at k i

@@ -1,5 +1,7 @@
 pub mod Choosing
 pub mod Encoding
+pub mod Fetching
+pub mod Lent
 pub mod Naming
 pub mod Putting
 pub mod Reading

@@ -9,7 +9,7 @@ use Rattle.cod_types.specs.Faults.{Rose}
 use Rattle.cod_data.specs.Values.{placed}
 use Rattle.cod_seg.specs.Seg.{Col, col_at, no_col}
 use Rattle.cod_repair.specs.declared.columns.ColumnFailed.{ColumnFailed}
-use Rattle.cod_repair.specs.Columns.{failed_at, faults_at, HasValue, IsMadeFor, IsReadable, was_read, were_read}
+use Rattle.cod_repair.specs.Columns.{failed_at, faults_at, HasValue, IsInside, IsMadeFor, IsReadable, was_read, were_read}
 use Rattle.cod_repair.proofs.Reading.{failed_at_same, were_read_rest, were_read_same}
 
 -- a claim's delta as a data column takes it, and as the claims tell it
@@ -36,6 +36,9 @@ same_kept new a b e h kept = h ∙ ap (λ (f : ℕ). was_read f a) kept ∙ ap (
 
 pub range_from : (off len s t : ℕ) (a b : Col) → a ≡ b → s ≡ t → IsReadable off len t b → IsReadable off len s a
 range_from off len s t a b e size h = rw (e, size) h
+
+pub inside_from : (off len : ℕ) (a b : Col) → a ≡ b → IsInside off len b → IsInside off len a
+inside_from off len a b e h = rw e h
 
 pub failed_reads : (chosen : ℕ → Bool) (old columns : List Col) (i col count : ℕ) (new : Col) → columns ≡ were_read chosen old i → new ≡ was_read new.state.device.faults (col_at old i)
     → col ≡ i → count ≡ new.state.device.faults → set columns i new ≡ failed_at chosen old col count

@@ -15,7 +15,7 @@ use Rattle.cod_repair.proofs.Summing.{sum_of_more}
 
 -- ---- a sum of windows at a place
 
-sum_at_more : (scalars : List ℕ) (sources : List (List ℕ)) (c : ℕ) (ys : List ℕ) (x : ℕ) → length scalars ≡ length sources
+pub sum_at_more : (scalars : List ℕ) (sources : List (List ℕ)) (c : ℕ) (ys : List ℕ) (x : ℕ) → length scalars ≡ length sources
     → sum_at (scalars ++ c ∷ []) (sources ++ ys ∷ []) x ≡ bit_xor (sum_at scalars sources x) (product c (get_or ys x 0))
 unfolding sum_at
 sum_at_more [] [] c ys x size = xor_zero_r (product c (get_or ys x 0)) ∙ sym (xor_zero_l (product c (get_or ys x 0)))
@@ -67,7 +67,7 @@ none_held into coefs windows len x = xor_zero_r (get_or into x 0)
 
 -- ---- one window more
 
-sum_of_same : (r s : List ℕ) (f g : ℕ → ℕ) (m : ℕ) → ((j : ℕ) → j < m → get_or r j 0 ≡ get_or s j 0) → ((j : ℕ) → j < m → f j ≡ g j) → sum_of r f m ≡ sum_of s g m
+pub sum_of_same : (r s : List ℕ) (f g : ℕ → ℕ) (m : ℕ) → ((j : ℕ) → j < m → get_or r j 0 ≡ get_or s j 0) → ((j : ℕ) → j < m → f j ≡ g j) → sum_of r f m ≡ sum_of s g m
 sum_of_same r s f g zero rows bytes = refl
 sum_of_same r s f g (suc m) rows bytes =
     rw (sum_of_same r s f g m (λ j lt. rows j (omega arith)) (λ j lt. bytes j (omega arith)), rows m (omega arith), bytes m (omega arith)) refl

@@ -88,6 +88,16 @@ pub record IsReadable (off len scratch : ℕ) (c : Col) : Type 0 where
   pub inside : off + len ≤ c.state.shape.block
   pub scratch_size : c.state.shape.block + c.state.shape.reserve ≤ scratch
 
+-- a column has the range in its block
+pub record IsInside (off len : ℕ) (c : Col) : Type 0 where
+  pub block : c.state.size ≡ 0 → c.state.device.size ≡ c.state.shape.block
+  pub inside : off + len ≤ c.state.shape.block
+
+-- A column's bytes at the cut are those of its region: no delta is kept, and no record stands in its log.
+pub record IsPlain (c : Col) (kept : ℕ → ℕ) : Type 0 where
+  pub bare : c.state.size ≡ 0 → (x : ℕ) → kept x ≡ 0
+  pub no_record : 0 < c.state.size → c.state.used ≡ 0
+
 -- column i is one of the k lowest live columns
 abbrev pub is_source : (k : ℕ) → List Col → ℕ → Bool
 is_source k cols i = (col_at cols i).is_up && nat_lt (up_below i cols) k

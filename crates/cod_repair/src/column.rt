@@ -16,7 +16,7 @@ ghost use Rattle.cod_parity.specs.Held.{Holds, no_pieces, Piece, pieces_length, 
 ghost use Rattle.cod_place.specs.Free.{AreOf, at_node, less};
 ghost use Rattle.cod_place.specs.Room.{Room};
 ghost use Rattle.cod_place.specs.Rooms.{raised};
-ghost use Rattle.cod_repair.specs.Columns.{HasValue, IsFull, IsReadable, parity_of, was_read};
+ghost use Rattle.cod_repair.specs.Columns.{HasValue, IsFull, IsInside, IsPlain, IsReadable, parity_of, was_read};
 ghost use Rattle.cod_repair.specs.Views.{state_in};
 
 use cod_chronicle::Link;
@@ -248,6 +248,51 @@ impl<R: Region> Column<R> {
             Kind::Parity(column) => {
                 let _shape = column.geometry(); // its reserved space isn't empty
                 column.read_from(off, into, cuts, scratch)
+            }
+        }
+    }
+
+    /// Whether its bytes at the cut are those of its region. It is told whether no delta is kept.
+    pub(crate) fn is_plain(&self, bare: bool) -> bool
+        ensures { (kept : ℕ → ℕ) → (bare ≡ true → (x : ℕ) → kept x ≡ 0) → result ≡ true → IsPlain self.now kept }
+    {
+        match &self.kind {
+            Kind::Data(_, _) => bare,
+            Kind::Parity(column) => {
+                let _shape = column.geometry(); // its reserved space isn't empty
+                column.used() == 0
+            }
+        }
+    }
+
+    /// Counts a read of so many bytes from `off` on, which `lent` then gives without a copy.
+    pub(crate) fn fetch(&mut self, off: u32, len: usize) -> Result<(), Failed>
+        requires { IsInside off len self.old }
+        ensures same { self.new ≡ was_read self.new.state.device.faults self.old }
+        ensures cause { HasCause self.old.state.device.faults self.new.state.device.faults result }
+        ensures sure { self.old.state.device.never_fails ≡ true → IsOk result }
+    {
+        match &mut self.kind {
+            Kind::Data(_, column) => column.fetch(off, len),
+            Kind::Parity(column) => {
+                let _shape = column.geometry(); // its reserved space isn't empty
+                column.fetch(off, len)
+            }
+        }
+    }
+
+    /// The bytes from `off` on, as its region holds them: those at the cut, where the column is plain.
+    pub(crate) fn lent(&self, off: u32, len: usize) -> &[u8]
+        requires { IsInside off len self.now }
+        ensures length { length result.now ≡ len }
+        ensures value { (cuts : List ℕ) (kept v : ℕ → ℕ) → HasValue self.now cuts kept v → IsPlain self.now kept
+            → (x : ℕ) → x < len → slice_index result.now x ≡ v (off + x) }
+    {
+        match &self.kind {
+            Kind::Data(_, column) => column.lent(off, len),
+            Kind::Parity(column) => {
+                let _shape = column.geometry(); // its reserved space isn't empty
+                column.lent(off, len)
             }
         }
     }

@@ -6,6 +6,7 @@ mod calls;
 mod column;
 mod columns;
 pub mod laws;
+mod lending;
 mod sources;
 mod target;
 mod window;

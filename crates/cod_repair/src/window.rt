@@ -11,6 +11,7 @@ ghost use Rattle.cod_repair.specs.Columns.{AreMadeFor, failed_at, faults_at, Has
 ghost use Rattle.cod_repair.specs.Pieces.{AreOf, kept_byte, sum_of, with_windows};
 
 use crate::calls::failed;
+use crate::lending::{are_plain, fetch_sources, sum_lent};
 use crate::sources::{has, lowest_live};
 use crate::{Bench, Column, ColumnFailed, Columns};
 use cod_claims::Claims;
@@ -58,11 +59,47 @@ pub fn piece<R: Region>(
     )
 }
 
-/// How many windows are added at once.
-const WAYS: usize = 4;
+/// How many sources are added at once.
+pub(crate) const WAYS: usize = 4;
 
 /// Brings the sum of the source columns, each times its coefficient, by one read on each.
 fn sum_sources<R: Region>(
+    columns: &mut [Column<R>],
+    claims: &Claims,
+    cuts: &Cuts,
+    sources: u16,
+    row: &[u8; 16],
+    off: u32,
+    into: &mut [u8],
+    windows: &mut [u8],
+    scratch: &mut [u8],
+) -> Result<(), ColumnFailed>
+    requires most { length columns.old ≤ 16 }
+    requires elsewhere { (j : ℕ) → j < 16 → has_column sources j ≡ false → slice_index row.now j ≡ 0 }
+    requires range { (i : ℕ) → i < length columns.old → has_column sources i ≡ true
+        → IsReadable off (length into.old) (length scratch.old) (col_at columns.old i) }
+    requires room { length into.old ≤ length windows.old }
+    ensures sum { (v : ℕ → ℕ → ℕ) → ((i : ℕ) → i < length columns.old → has_column sources i ≡ true
+        → HasValue (col_at columns.old i) cuts.now (kept_byte claims.now i) (v i))
+        → OnOk result ((x : ℕ) → x < length into.old
+        → slice_index into.new x ≡ sum_of row.now (λ i. v i (off + x)) (length columns.old)) }
+    ensures reads { MatchResult result (λ _. columns.new ≡ were_read (has_column sources) columns.old (length columns.old))
+        (λ e. columns.new ≡ failed_at (has_column sources) columns.old e.col e.count) }
+    ensures cause { IfErr result (λ e. (e.col < length columns.old) × (has_column sources e.col ≡ true) × Rose (faults_at columns.old e.col) e.count) }
+    ensures sure { ((i : ℕ) → i < length columns.old → has_column sources i ≡ true → (state_at columns.old i).device.never_fails ≡ true) → IsOk result }
+{
+    if !are_plain(columns, claims, sources) {
+        return sum_read(
+            columns, claims, cuts, sources, row, off, into, windows, scratch,
+        );
+    }
+    fetch_sources(columns, sources, off, into.len())?;
+    sum_lent(columns, sources, row, off, into);
+    Ok(())
+}
+
+/// Brings the sum of the source columns, each times its coefficient, by one read on each into a window.
+fn sum_read<R: Region>(
     columns: &mut [Column<R>],
     claims: &Claims,
     cuts: &Cuts,

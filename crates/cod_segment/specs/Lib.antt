@@ -1,4 +1,5 @@
 pub mod Advancing
 pub mod Events
 pub mod Exact
+pub mod Looks
 pub mod Views

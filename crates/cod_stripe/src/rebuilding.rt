@@ -12,6 +12,8 @@ ghost use Rattle.cod_seg.specs.Sound.{is_frail};
 ghost use Rattle.cod_seg.specs.declared.next.Step.TheVariants as step;
 ghost use Rattle.cod_segment.specs.Events.{Balances, call_in, Costs, HasRoom, is_answered, IsAsked, IsOutcome, IsSettingOf, kills_at, Makes, NoneFails, request_of, rooms_of, Swept};
 ghost use Rattle.cod_segment.specs.Exact.{Exactly, SweepsExactly};
+ghost use Rattle.cod_segment.specs.Looks.{HasLooked};
+ghost use Rattle.cod_types.specs.declared.call.Reply.TheVariants.{Lost, Rebuilt};
 
 use crate::around::Around;
 use crate::stripe::Stripe;
@@ -72,6 +74,7 @@ impl<R: Region> Stripe<R> {
             → Makes w (request_of around.old.caller.0 around.old.number (call_in slip.old)) around.old.clock.now around.new.clock.now (is_answered result) self.old self.new }
         ensures exact { (w : Setting) → ((x : ℕ) → w.known x ≡ kills_at (B.kills around.old.board.now) x) → Exactly w step.Lost result self.old self.new }
         ensures outcome { IsOutcome result (request_of around.old.caller.0 around.old.number (call_in slip.old)) around.new.clock.now self.new slip.new }
+        ensures told { slip.new.reply ≡ Some Lost }
         ensures costs { NoneFails self.old self.new → Costs self.old around.old.caller.0 (call_in slip.old) step.Lost self.new }
         ensures rooms { (rest : List Room) → P.Came around.old.pools.now (rooms_of self.old ++ rest) → P.Came around.new.pools.now (rooms_of self.new ++ rest) }
         ensures balance { Balances (P.free around.old.pools.now) (P.free around.new.pools.now) (rooms_of self.old) (rooms_of self.new) }
@@ -103,6 +106,7 @@ impl<R: Region> Stripe<R> {
             → Makes w (request_of around.old.caller.0 around.old.number (call_in slip.old)) around.old.clock.now around.new.clock.now (is_answered result) self.old self.new }
         ensures exact { (w : Setting) → ((x : ℕ) → w.known x ≡ kills_at (B.kills around.old.board.now) x) → Exactly w step.RebuildStart result self.old self.new }
         ensures outcome { IsOutcome result (request_of around.old.caller.0 around.old.number (call_in slip.old)) around.new.clock.now self.new slip.new }
+        ensures looked { HasLooked (P.Seen around.old.pools.now around.new.pools.now) slip.new.reply }
         ensures costs { NoneFails self.old self.new → Costs self.old around.old.caller.0 (call_in slip.old) step.RebuildStart self.new }
         ensures rooms { (rest : List Room) → P.Came around.old.pools.now (rooms_of self.old ++ rest) → P.Came around.new.pools.now (rooms_of self.new ++ rest) }
         ensures balance { Balances (P.free around.old.pools.now) (P.free around.new.pools.now) (rooms_of self.old) (rooms_of self.new) }
@@ -143,6 +147,7 @@ impl<R: Region> Stripe<R> {
             → Makes w (request_of around.old.caller.0 around.old.number (call_in slip.old)) around.old.clock.now around.new.clock.now (is_answered result) self.old self.new }
         ensures exact { (w : Setting) → ((x : ℕ) → w.known x ≡ kills_at (B.kills around.old.board.now) x) → Exactly w step.RebuildPiece result self.old self.new }
         ensures outcome { IsOutcome result (request_of around.old.caller.0 around.old.number (call_in slip.old)) around.new.clock.now self.new slip.new }
+        ensures slip { slip.new ≡ slip.old }
         ensures costs { NoneFails self.old self.new → Costs self.old around.old.caller.0 (call_in slip.old) step.RebuildPiece self.new }
         ensures rooms { (rest : List Room) → P.Came around.old.pools.now (rooms_of self.old ++ rest) → P.Came around.new.pools.now (rooms_of self.new ++ rest) }
         ensures balance { Balances (P.free around.old.pools.now) (P.free around.new.pools.now) (rooms_of self.old) (rooms_of self.new) }
@@ -181,6 +186,7 @@ impl<R: Region> Stripe<R> {
             → Makes w (request_of around.old.caller.0 around.old.number (call_in slip.old)) around.old.clock.now around.new.clock.now (is_answered result) self.old self.new }
         ensures exact { (w : Setting) → ((x : ℕ) → w.known x ≡ kills_at (B.kills around.old.board.now) x) → Exactly w step.RebuildEnd result self.old self.new }
         ensures outcome { IsOutcome result (request_of around.old.caller.0 around.old.number (call_in slip.old)) around.new.clock.now self.new slip.new }
+        ensures told { (r : Rebuilding) × (t : Target) × (self.old.rebuild ≡ Some r) × (r.target ≡ Some t) × (slip.new.reply ≡ Some (Rebuilt r.col t.room.node)) }
         ensures costs { NoneFails self.old self.new → Costs self.old around.old.caller.0 (call_in slip.old) step.RebuildEnd self.new }
         ensures rooms { (rest : List Room) → P.Came around.old.pools.now (rooms_of self.old ++ rest) → P.Came around.new.pools.now (rooms_of self.new ++ rest) }
         ensures balance { Balances (P.free around.old.pools.now) (P.free around.new.pools.now) (rooms_of self.old) (rooms_of self.new) }
@@ -213,6 +219,7 @@ impl<R: Region> Stripe<R> {
             → Makes w (request_of around.old.caller.0 around.old.number (call_in slip.old)) around.old.clock.now around.new.clock.now (is_answered result) self.old self.new }
         ensures exact { (w : Setting) → ((x : ℕ) → w.known x ≡ kills_at (B.kills around.old.board.now) x) → Exactly w step.Drain result self.old self.new }
         ensures outcome { IsOutcome result (request_of around.old.caller.0 around.old.number (call_in slip.old)) around.new.clock.now self.new slip.new }
+        ensures looked { HasLooked (P.Seen around.old.pools.now around.new.pools.now) slip.new.reply }
         ensures costs { NoneFails self.old self.new → Costs self.old around.old.caller.0 (call_in slip.old) step.Drain self.new }
         ensures rooms { (rest : List Room) → P.Came around.old.pools.now (rooms_of self.old ++ rest) → P.Came around.new.pools.now (rooms_of self.new ++ rest) }
         ensures balance { Balances (P.free around.old.pools.now) (P.free around.new.pools.now) (rooms_of self.old) (rooms_of self.new) }

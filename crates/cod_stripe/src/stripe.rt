@@ -1,6 +1,6 @@
 //! A segment of which all that is promised holds between its events.
 
-ghost use Rattle.std.specs.Prelude.{◌≡◌, ◌+◌, ◌<◌, ◌≤◌, ◌++◌, ℕ, List, IfOk, IsSome, MatchResult, None, length, false, true};
+ghost use Rattle.std.specs.Prelude.{◌≡◌, ◌+◌, ◌<◌, ◌≤◌, ◌++◌, ℕ, List, IfOk, IsSome, MatchResult, None, Some, length, false, true};
 ghost use Rattle.cod_chronicle.specs.Event.{Setting};
 ghost use Rattle.cod_chronicle.specs.Legal.{node_id};
 ghost use Rattle.cod_place.specs.Room.{Room};
@@ -14,6 +14,7 @@ ghost use Rattle.cod_repair.specs.Columns.{line_of};
 ghost use Rattle.cod_stripe.specs.Building.{AreUntouched, frail_below, HomesHaveRoom};
 ghost use Rattle.cod_segment.specs.Events.{Balances, call_in, Costs, HasRoom, is_answered, IsAsked, IsOutcome, IsSettingOf, kills_at, Makes, NoneFails, request_of, rooms_of};
 ghost use Rattle.cod_segment.specs.Exact.{Exactly};
+ghost use Rattle.cod_types.specs.declared.call.Reply.TheVariants.{Clear, Whole};
 ghost use Rattle.cod_board.specs.Kills.{Keeps};
 
 use crate::around::Around;
@@ -194,6 +195,7 @@ impl<R: Region> Stripe<R> {
             → Makes w (request_of around.old.caller.0 around.old.number (call_in slip.old)) around.old.clock.now around.new.clock.now (is_answered result) self.old self.new }
         ensures exact { (w : Setting) → ((x : ℕ) → w.known x ≡ kills_at (B.kills around.old.board.now) x) → Exactly w (step.Whole) result self.old self.new }
         ensures outcome { IsOutcome result (request_of around.old.caller.0 around.old.number (call_in slip.old)) around.new.clock.now self.new slip.new }
+        ensures told { slip.new.reply ≡ Some Whole }
         ensures costs { NoneFails self.old self.new → Costs self.old around.old.caller.0 (call_in slip.old) (step.Whole) self.new }
         ensures rooms { (rest : List Room) → P.Came around.old.pools.now (rooms_of self.old ++ rest) → P.Came around.new.pools.now (rooms_of self.new ++ rest) }
         ensures balance { Balances (P.free around.old.pools.now) (P.free around.new.pools.now) (rooms_of self.old) (rooms_of self.new) }
@@ -226,6 +228,7 @@ impl<R: Region> Stripe<R> {
             → Makes w (request_of around.old.caller.0 around.old.number (call_in slip.old)) around.old.clock.now around.new.clock.now (is_answered result) self.old self.new }
         ensures exact { (w : Setting) → ((x : ℕ) → w.known x ≡ kills_at (B.kills around.old.board.now) x) → Exactly w (step.Clear) result self.old self.new }
         ensures outcome { IsOutcome result (request_of around.old.caller.0 around.old.number (call_in slip.old)) around.new.clock.now self.new slip.new }
+        ensures told { slip.new.reply ≡ Some Clear }
         ensures costs { NoneFails self.old self.new → Costs self.old around.old.caller.0 (call_in slip.old) (step.Clear) self.new }
         ensures rooms { (rest : List Room) → P.Came around.old.pools.now (rooms_of self.old ++ rest) → P.Came around.new.pools.now (rooms_of self.new ++ rest) }
         ensures balance { Balances (P.free around.old.pools.now) (P.free around.new.pools.now) (rooms_of self.old) (rooms_of self.new) }

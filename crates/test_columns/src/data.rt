@@ -27,7 +27,7 @@ impl Data {
     }
 
     /// `fill BYTES` replaces all bytes, `apply OFF BYTES` those from a place on, `at OFF LEN` reads, and `at OFF LEN PLACE BYTES`
-    /// takes a kept delta off; `copy OFF LEN` reads the bytes as they are held.
+    /// takes a kept delta off; `copy OFF LEN` reads the bytes as they are held, and `fetch OFF LEN` does so without a copy.
     pub fn take_step(&mut self, rt: &HostRuntime, words: &Words<'_>) -> io::Result<()> {
         let from = self.column.region().count();
         let mut bytes = [0u8; MOST];
@@ -47,6 +47,7 @@ impl Data {
                 print::read(rt, &bytes[..len], done)?;
                 done
             }
+            "fetch" => self.fetch(rt, words.size(1), words.size(2))?,
             _ => return Ok(()),
         };
         print::calls(rt, self.column.region(), from, done)
@@ -64,6 +65,16 @@ impl Data {
     fn copy(&mut self, off: u32, into: &mut [u8]) -> bool {
         off as usize + into.len() <= self.column.region().len() as usize
             && self.column.copy_out(off, into).is_ok()
+    }
+
+    fn fetch(&mut self, rt: &HostRuntime, off: u32, len: u32) -> io::Result<bool> {
+        let len = len as usize;
+        let inside = off as usize + len <= self.column.region().len() as usize;
+        if !inside || self.column.fetch(off, len).is_err() {
+            return Ok(false);
+        }
+        print::line(rt, self.column.lent(off, len))?;
+        Ok(true)
     }
 
     fn read(&mut self, rt: &HostRuntime, words: &Words<'_>) -> io::Result<()> {

@@ -42,8 +42,8 @@ impl Parity {
         })
     }
 
-    /// `put BYTES`, `append BLOCK NUMBER VERSION COEFFICIENT OFF BYTES`, `commit BLOCK`, `value OFF LEN`, `out`, `merge` or
-    /// `tick`.
+    /// `put BYTES`, `append BLOCK NUMBER VERSION COEFFICIENT OFF BYTES`, `commit BLOCK`, `value OFF LEN`, `base OFF LEN`, which
+    /// reads the block as it is held and copies nothing, `out`, `merge` or `tick`.
     pub fn take_step(&mut self, rt: &HostRuntime, words: &Words<'_>) -> io::Result<()> {
         let from = self.column.region().held().count();
         let mut bytes = [0u8; MOST];
@@ -63,6 +63,7 @@ impl Parity {
                 print::read(rt, &bytes[..len], done)?;
                 done
             }
+            "base" => self.base(rt, words.size(1), words.size(2))?,
             "out" => {
                 let len = (self.column.geometry().block() + self.column.used()) as usize;
                 let len = len.min(MOST);
@@ -75,6 +76,10 @@ impl Parity {
             _ => return Ok(()),
         };
         print::calls(rt, self.column.region().held(), from, done)?;
+        self.print_numbers(rt)
+    }
+
+    fn print_numbers(&self, rt: &HostRuntime) -> io::Result<()> {
         println!(rt;
             "  used {}, size {} of {}, average {}, appended {}",
             self.column.used(),
@@ -133,6 +138,16 @@ impl Parity {
                 .column
                 .read_from(off, into, &self.cuts, &mut scratch)
                 .is_ok()
+    }
+
+    fn base(&mut self, rt: &HostRuntime, off: u32, len: u32) -> io::Result<bool> {
+        let len = len as usize;
+        let inside = off as usize + len <= self.column.geometry().block() as usize;
+        if !inside || self.column.fetch(off, len).is_err() {
+            return Ok(false);
+        }
+        print::line(rt, self.column.lent(off, len))?;
+        Ok(true)
     }
 
     fn out(&mut self, into: &mut [u8]) -> bool {

@@ -108,6 +108,15 @@ impl<R: Region> Region for Watched<R> {
         self.held.read_at(off, into)
     }
 
+    fn fetch(&mut self, off: u32, len: usize) -> Result<(), Failed> {
+        self.add_note(Kind::Read, off, len);
+        self.held.fetch(off, len)
+    }
+
+    fn lent(&self, off: u32, len: usize) -> &[u8] {
+        self.held.lent(off, len)
+    }
+
     fn write_at(&mut self, off: u32, from: &[u8]) -> Result<(), Failed> {
         self.add_note(Kind::Write, off, from.len());
         let len = from.len().min(MOST);

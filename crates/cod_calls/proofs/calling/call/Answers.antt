@@ -1,7 +1,7 @@
 use Rattle.std.proofs.Common.{ap, ◌∙◌}
 use Rattle.cod_seg.specs.Seg.{Seg}
 use Rattle.cod_turn.specs.Seats.{Seated}
-use Rattle.cod_calls.proofs.Between.{answered_told, at_start, event_asked, event_ends, event_fits, event_gives, event_number, goes_between, request_by}
+use Rattle.cod_calls.proofs.Between.{answered_told, at_start, event_asked, event_ends, event_fits, event_gives, event_number, goes_between, looked_in_call, request_by}
 use Rattle.cod_calls.proofs.calling.call.Goals as goal
 
 pub loop-init : goal.loop-init
@@ -69,6 +69,8 @@ returns-in-Answered g c =
       desk = n.desk_is;
       board = n.board_after;
       pools = n.pools_after;
+      looked = looked_in_call c.args.desk.now.pools c.loop.desk.pools c.event-outcome.new.desk.pools c.event-outcome.new.slip.reply c.answered.result.reply
+          c.loop.invariant.pools_after c.answered.ensures.2 e.looked;
       made = n.made;
       ready = n.ready;
     }

@@ -1,8 +1,9 @@
 use Rattle.std.proofs.Common.{sym, ap, ◌∙◌, subst, rules}
 use Rattle.atomic_table.specs.Seated.{TableId}
 use Rattle.cod_board.specs.Seats.{Seated as OnBoard}
-use Rattle.cod_place.specs.Free.{AreOf, Pooled, Seated as OnPools}
+use Rattle.cod_place.specs.Free.{AreOf, HasSeen, Pooled, Seated as OnPools}
 use Rattle.cod_segment.specs.Events.{rooms_of}
+use Rattle.cod_segment.specs.Looks.{HasLooked}
 use Rattle.cod_calls.proofs.Lending.{kills_count, turns_by}
 use Rattle.cod_calls.proofs.Rooming.{rooms_came}
 use Rattle.cod_calls.proofs.calling.event.Goals as goal
@@ -30,3 +31,7 @@ returns-clause-turns g c =
     turns_by c.args.stripe.now c.advance.new.stripe c.advance.result _ c.args.desk.now.clock _ c.advance.new.clock c.args.desk.now.board.knows.seen c.new-board.result.seat.now.knows.seen
     _ c.advance.new.board.seat.now.knows.seen c.new-board.result.board.now.words c.advance.new.board.board.now.words (search rules) (search rules)
     (ap (λ (s : OnBoard). s.knows.seen) p.1) words (ap (λ (t : TableId). t.words) c.advance.ensures.board.1.1 ∙ words) c.advance.ensures.turns
+
+pub returns-clause-looked : goal.returns-clause-looked
+returns-clause-looked g c =
+    subst (λ (s : OnPools). HasLooked (HasSeen s c.advance.new.pools.seat.now) c.advance.new.slip.reply) c.new-pools.ensures.parts.1 c.advance.ensures.looked

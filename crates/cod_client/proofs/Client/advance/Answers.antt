@@ -1,11 +1,12 @@
-use Rattle.std.proofs.Common.{◌≡◌, ◌<◌, List, [], ◌++◌, refl, sym, ap, ◌∙◌, subst, append-nil}
+use Rattle.std.proofs.Common.{◌<◌, List, [], refl, ap, ◌∙◌, subst, append-nil}
 use Rattle.cod_types.specs.declared.call.Caller.{Caller}
 use Rattle.cod_place.specs.Room.{Room}
-use Rattle.cod_segment.specs.Events.{call_in, IsAsked, request_of, rooms_of}
+use Rattle.cod_segment.specs.Events.{call_in, request_of, rooms_of}
 use Rattle.cod_chronicle.specs.Event.{Request}
 use Rattle.cod_chronicle.specs.Said.{Site}
 use Rattle.cod_segment.specs.Advancing.{IsAdvanced}
 use Rattle.cod_segment.proofs.Balancing.{then}
+use Rattle.cod_segment.proofs.Looking.{has_looked_later}
 use Rattle.cod_client.proofs.Stepping.{keeps_on, number_stays, same_request, still_asked, turns_of}
 use Rattle.cod_client.proofs.Client.advance.Goals as goal
 
@@ -40,6 +41,12 @@ returns-in-Answered-clause-turns g c = λ w setting known seen.
     (λ v set k n. c.sweep.ensures.makes v (request_of c.args.self.now.caller.0 c.args.self.now.number (call_in c.args.slip.now)) set k n)
     c.go_on-outcome.ensures.follows c.go_on-outcome.ensures.exact
 
+pub returns-in-Answered-clause-looked : goal.returns-in-Answered-clause-looked
+returns-in-Answered-clause-looked g c =
+    has_looked_later (g.P.Pools.Seen c.sweep.new.around.pools.now c.go_on-outcome.new.around.pools.now) (g.P.Pools.Seen c.args.around.now.pools.now c.go_on-outcome.new.around.pools.now)
+    (λ node bytes seen. g.met.P.Pools.seen_earlier c.args.around.now.pools.now c.sweep.new.around.pools.now c.go_on-outcome.new.around.pools.now node bytes c.sweep.ensures.pools.2 seen)
+    c.go_on-outcome.new.slip.reply c.go_on-outcome.ensures.looked
+
 pub returns-in_default : goal.returns-in_default
 returns-in_default g c = record {
   turns = λ w setting known seen.
@@ -56,6 +63,9 @@ returns-in_default g c = record {
       (same_request c.sweep.new.around.caller.0 c.args.self.now.caller.0 c.sweep.new.around.number c.args.self.now.number (call_in c.args.slip.now)
       (ap (λ (x : Caller). x.0) (c.sweep.ensures.who.0 ∙ c.requires.who.0)) (c.sweep.ensures.who.1 ∙ c.requires.who.1))
       c.go_on-outcome.ensures.outcome;
+  looked = has_looked_later (g.P.Pools.Seen c.sweep.new.around.pools.now c.go_on-outcome.new.around.pools.now) (g.P.Pools.Seen c.args.around.now.pools.now c.go_on-outcome.new.around.pools.now)
+      (λ node bytes seen. g.met.P.Pools.seen_earlier c.args.around.now.pools.now c.sweep.new.around.pools.now c.go_on-outcome.new.around.pools.now node bytes c.sweep.ensures.pools.2 seen)
+      c.go_on-outcome.new.slip.reply c.go_on-outcome.ensures.looked;
   number = rw (number_stays c.go_on-outcome.result c.args.self.now.number c.in_default.not-Answered) refl;
   rooms = λ rest came. c.go_on-outcome.ensures.rooms rest (c.sweep.ensures.rooms rest came);
   balance = then (g.P.Pools.free c.args.around.now.pools.now) (g.P.Pools.free c.sweep.new.around.pools.now) (g.P.Pools.free c.go_on-outcome.new.around.pools.now)

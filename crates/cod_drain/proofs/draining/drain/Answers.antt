@@ -131,3 +131,6 @@ returns-clause-balance g c =
     then (g.P.Pools.free c.args.pools.now) (g.P.Pools.free c.copy_away-tried.new.pools) (g.P.Pools.free c.finish.new.pools) s (rooms_at c.copy_away-tried.result ++ s) (rooms_of c.finish.new.segment) first
     (subst (λ (l : List Room). Balances (g.P.Pools.free c.copy_away-tried.new.pools) (g.P.Pools.free c.finish.new.pools) (rooms_at c.copy_away-tried.result ++ l) (rooms_of c.finish.new.segment)) both.0.rooms
     c.finish.ensures.balance)
+
+pub returns-clause-looked : goal.returns-clause-looked
+returns-clause-looked g c = c.finish.ensures.looked c.args.pools.now c.copy_away-tried.ensures.looked

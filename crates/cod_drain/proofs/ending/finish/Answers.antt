@@ -1,13 +1,14 @@
 use Rattle.std.proofs.Common.{List, ◌++◌, cond, refl, sym, ap, subst, Some}
-use Rattle.cod_types.specs.declared.call.Reply.TheVariants.{Clear, Lost, NoMem, NoSpare}
+use Rattle.cod_types.specs.declared.call.Reply.TheVariants.{Clear, Lost, NoMem, NoSpare, Shifted}
 use Rattle.cod_types.specs.declared.reasons.Reason.{Reason}
 use Rattle.cod_chronicle.specs.Legal.{node_id}
 use Rattle.cod_chronicle.specs.Said.{bytes_of, is_over, node_of}
 use Rattle.cod_segment.specs.Events.{Balances, rooms_of}
-use Rattle.cod_drain.specs.Copies.{rooms_at}
+use Rattle.cod_segment.proofs.Looking.{looked_some}
+use Rattle.cod_drain.specs.Copies.{HasSought, rooms_at}
 use Rattle.cod_drain.specs.Ends.{MayEnd}
 use Rattle.cod_drain.specs.declared.trying.Tried.{Tried}
-use Rattle.cod_drain.proofs.Endings.{call_is, clear_answer, clear_quiet, clear_seen, kept_ends, memory_answer, moved_ends, spare_answer}
+use Rattle.cod_drain.proofs.Endings.{call_is, clear_answer, clear_looked, clear_quiet, clear_seen, kept_ends, memory_answer, moved_ends, spare_answer}
 use Rattle.cod_drain.proofs.ending.finish.Goals as goal
 
 pub returns-in-Copied-clause-ends : goal.returns-in-Copied-clause-ends
@@ -58,3 +59,24 @@ returns-in-NoMemory-clause-ends g c = λ before now keeps may.
     c.requires.sound c.requires.slip (memory_answer s i c.requires.sound none) refl (λ w setting seen. tt)
     c.answer-in-NoMemory.ensures.clock c.answer-in-NoMemory.ensures.follows (rw asked at c.answer-in-NoMemory.ensures.becomes) (rw c.answer-in-NoMemory.ensures.slip refl) in
     rw (asked, c.answer-in-NoMemory.ensures.outcome) ends
+
+-- ---- the free bytes that the reply tells of
+
+pub returns-in-Copied-clause-looked : goal.returns-in-Copied-clause-looked
+returns-in-Copied-clause-looked g c = λ since sought.
+    looked_some (g.P.Pools.Seen since c.arrive.new.pools) c.arrive.new.slip.reply (Shifted c.args.plan.col c.in-Copied.target.room.node) c.arrive.ensures.enters.told tt
+
+pub returns-in-Failed-clause-looked : goal.returns-in-Failed-clause-looked
+returns-in-Failed-clause-looked g c = λ since sought.
+    let over = is_over c.args.segment.now.site c.args.segment.now.log in
+    clear_looked (g.P.Pools.Seen since c.args.pools.now) over c.answer_clear.new.slip.reply c.answer_clear.ensures.told
+
+pub returns-in-NoSpare-clause-looked : goal.returns-in-NoSpare-clause-looked
+returns-in-NoSpare-clause-looked g c = λ since sought.
+    let Seen = g.P.Pools.Seen since c.args.pools.now in
+    let seen = subst (λ (x : Tried g.row.R.Denot). HasSought Seen c.args.reasons x) c.in-NoSpare.is sought in
+    looked_some Seen c.answer.new.slip.reply (NoSpare c.args.reasons) (rw c.answer.ensures.slip (ap (λ (r : List Reason). Some (NoSpare r)) c.copy_reasons.ensures)) seen
+
+pub returns-in-NoMemory-clause-looked : goal.returns-in-NoMemory-clause-looked
+returns-in-NoMemory-clause-looked g c = λ since sought.
+    looked_some (g.P.Pools.Seen since c.args.pools.now) c.answer-in-NoMemory.new.slip.reply NoMem (rw c.answer-in-NoMemory.ensures.slip refl) tt

@@ -1,7 +1,7 @@
 use Rattle.std.proofs.Common.{◌∙◌, [], refl}
 use Rattle.cod_segment.proofs.Balancing.{stays, then}
 use Rattle.cod_drain.specs.Copies.{rooms_at}
-use Rattle.cod_drain.proofs.Trials.{keeps_kills, tries_on, trying_on, trying_starts}
+use Rattle.cod_drain.proofs.Trials.{keeps_kills, sought_later, tries_on, trying_on, trying_starts}
 use Rattle.cod_drain.proofs.trying.copy_away.Goals as goal
 
 pub places-init : goal.places-init
@@ -23,6 +23,12 @@ pub returns-in-Some-clause-tried : goal.returns-in-Some-clause-tried
 returns-in-Some-clause-tried g c =
     tries_on c.args.plan (g.B.Board.kills c.try_once.new.board) c.try_once.new.reasons c.args.clock.now c.places.clock c.try_once.new.clock c.args.segment.now c.places.segment c.try_once.new.segment c.in-Some.tried
     c.requires.sound c.requires.served.below c.places.invariant.trying.reads c.in-Some.ensures.tried
+
+pub returns-in-Some-clause-looked : goal.returns-in-Some-clause-looked
+returns-in-Some-clause-looked g c =
+    sought_later (g.P.Pools.Seen c.places.pools c.try_once.new.pools) (g.P.Pools.Seen c.args.pools.now c.try_once.new.pools)
+    (λ node bytes seen. g.met.P.Pools.seen_earlier c.args.pools.now c.places.pools c.try_once.new.pools node bytes c.places.invariant.same seen) c.try_once.new.reasons c.in-Some.tried
+    c.in-Some.ensures.looked
 
 pub returns-in-Some-clause-balance : goal.returns-in-Some-clause-balance
 returns-in-Some-clause-balance g c =

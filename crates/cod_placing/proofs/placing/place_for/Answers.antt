@@ -6,7 +6,7 @@ use Rattle.cod_place.specs.Spares.{IsSpare, candidates}
 use Rattle.cod_seg.specs.Seg.{col_at, Seg, Target}
 use Rattle.cod_segment.specs.Events.{rooms_of}
 use Rattle.cod_placing.specs.Places.{IsFirst, IsFresh}
-use Rattle.cod_placing.proofs.Finding.{first_is, fresh, given_balances, IsSearch, none_fits, owner_is}
+use Rattle.cod_placing.proofs.Finding.{first_is, fresh, given_balances, IsSearch, none_fits, owner_is, whys_looked}
 use Rattle.cod_placing.proofs.placing.place_for.Goals as goal
 
 pub returns-in-None-clause-missing : goal.returns-in-None-clause-missing
@@ -20,6 +20,10 @@ returns-in-None-clause-missing g c = λ same.
     let nodes = ap (λ (x : Seg). candidates c.node-after.result.0 c.taken-taken.result x.site.nodes) c.segment.view_is in
     none_fits s c.args.col c.node-after.result.0 c.taken-taken.result c.args.bytes c.args.broken.now (g.B.Board.kills c.spare.new.board) (g.P.Pools.Seen c.args.pools.now c.spare.new.pools)
     c.spare.new.reasons c.requires.sound search c.requires.bytes c.requires.broken (c.in-None.ensures.none.0 ∙ nodes) c.in-None.ensures.none.1
+
+pub returns-in-None-clause-looked : goal.returns-in-None-clause-looked
+returns-in-None-clause-looked g c = λ same.
+    whys_looked c.args.bytes c.args.broken.now (g.B.Board.kills c.spare.new.board) (g.P.Pools.Seen c.args.pools.now c.spare.new.pools) c.spare.new.reasons c.in-None.ensures.none.1
 
 pub returns-in-Err-clause-balance : goal.returns-in-Err-clause-balance
 returns-in-Err-clause-balance g c =

@@ -3,16 +3,18 @@ use Rattle.std.specs.Prelude.{is_some, unwrap_or}
 use Rattle.cod_types.specs.Columns.{column_size}
 use Rattle.cod_types.specs.declared.call.Call.{Call as Asked}
 use Rattle.cod_types.specs.declared.call.Call.TheVariants.{Merge, Rebuild}
+use Rattle.cod_types.specs.declared.call.Reply.{Reply}
 use Rattle.cod_place.specs.Room.{Room}
 use Rattle.cod_claims.specs.Slips.{Paper}
 use Rattle.cod_seg.specs.Seg.{Col, Rebuilding, Seg}
 use Rattle.cod_segment.specs.Events.{Balances, call_in, HasBegun, request_of, rooms_of}
 use Rattle.cod_segment.proofs.Answering.{calm_setting, sound_after}
 use Rattle.cod_segment.proofs.Balancing.{beside}
+use Rattle.cod_segment.proofs.Looking.{looked_none}
 use Rattle.cod_placing.specs.Places.{IsFresh}
 use Rattle.cod_placing.specs.Starts.{chosen, vain}
 use Rattle.cod_placing.specs.declared.placing.Missing.TheVariants.{Spare}
-use Rattle.cod_placing.proofs.Aiming.{aimed_is, chosen_sound, costs_nothing, ended_is, exact_aim, exact_end, fresh_in, killed_setting, killed_setting_is, makes_aim, makes_end, opens_aim, outcome_end, rooms_bare, spare_in}
+use Rattle.cod_placing.proofs.Aiming.{aimed_is, chosen_sound, costs_nothing, ended_is, exact_aim, exact_end, fresh_in, killed_setting, killed_setting_is, makes_aim, makes_end, opens_aim, outcome_end, rooms_bare, spare_in, vain_looked}
 use Rattle.cod_placing.proofs.Choices.{start}
 use Rattle.cod_placing.proofs.starting.rebuild_start.Goals as goal
 
@@ -115,6 +117,19 @@ returns-in-Ok-clause-outcome g c =
         unanswered = begun.unanswered;
       }),
     )
+
+pub returns-in-Ok-clause-looked : goal.returns-in-Ok-clause-looked
+returns-in-Ok-clause-looked g c =
+    let s = c.args.segment.now in
+    let is = start s c.args.asker.caller.0 c.args.asker.number c.args.slip.now (call_in c.args.slip.now) c.requires.sound c.requires.next c.requires.asked in
+    let reply : Paper → Option Reply = λ x. x.reply in
+    let none = ap reply c.put_reasons.ensures ∙ (ap reply c.take_reasons-first.ensures.rest ∙ (ap reply c.choose_column.ensures.slip ∙ is.begun.unanswered)) in
+    looked_none (g.P.Pools.Seen c.args.pools.now c.place_for_rebuild.new.pools) c.put_reasons.new.self.reply none
+
+pub returns-in-Err-clause-looked : goal.returns-in-Err-clause-looked
+returns-in-Err-clause-looked g c =
+    vain_looked (g.P.Pools.Seen c.args.pools.now c.place_for_rebuild.new.pools) c.in-Err.missing c.place_for_rebuild.new.reasons c.give_up.new.slip.reply
+    (ap (λ (x : Paper). x.reply) c.give_up.ensures.slip) c.in-Err.ensures.looked
 
 pub returns-in-Ok-clause-costs : goal.returns-in-Ok-clause-costs
 returns-in-Ok-clause-costs g c = λ none.

@@ -1,4 +1,5 @@
-use Rattle.std.proofs.Common.{◌≡◌, length, true, refl}
+use Rattle.std.proofs.Common.{◌≡◌, length, true, refl, ap}
+use Rattle.cod_claims.specs.Slips.{Paper}
 use Rattle.cod_segment.specs.declared.asking.Outcome.TheVariants.{Answered}
 use Rattle.cod_segment.specs.Events.{call_in, request_of}
 use Rattle.cod_segment.proofs.Answering.{calm_setting, sound_after}
@@ -37,3 +38,6 @@ returns-clause-outcome g c =
     rw told
     (lost_outcome c.args.segment.now c.answer_lost.new.self c.args.asker.caller c.args.asker.number c.answer_lost.new.clock (call_in c.args.slip.now) c.answer_lost.new.slip becomes
     (rw c.answer_lost.ensures.slip refl))
+
+pub returns-clause-told : goal.returns-clause-told
+returns-clause-told g c = ap (λ (x : Paper). x.reply) c.answer_lost.ensures.slip

@@ -99,6 +99,17 @@ returns-clause-outcome g c =
     c.in-Some.rebuild c.in-Some-target.target c.args.clock.now c.next_stamp-stamp.result c.answer.new.clock (ending g c)
     (rw (← c.rebuild.view_is, ← c.node-node.ensures, c.answer.ensures.slip) refl))
 
+pub returns-clause-told : goal.returns-clause-told
+returns-clause-told g c =
+    let was : c.args.segment.now.rebuild ≡ Some c.in-Some.rebuild = rw (← c.segment.view_is) (sym c.take.ensures.value ∙ c.in-Some.is) in
+    let goal : c.in-Some.rebuild.target ≡ Some c.in-Some-target.target = rw (← c.rebuild.view_is) c.in-Some-target.is in (
+      c.in-Some.rebuild,
+      c.in-Some-target.target,
+      was,
+      goal,
+      rw (← c.rebuild.view_is, ← c.node-node.ensures, c.answer.ensures.slip) refl,
+    )
+
 pub returns-clause-costs : goal.returns-clause-costs
 returns-clause-costs g c = λ none.
     rise_costs c.args.segment.now c.answer.new.self c.args.asker.caller c.args.asker.number c.args.slip.now (call_in c.args.slip.now)

@@ -1,5 +1,7 @@
 use Rattle.std.proofs.Common.{◌≡◌, ◌+◌, ◌<◌, ◌∷◌, [], ℕ, length, set, Some, sym, ap, ◌∙◌, subst, refl, arith}
+use Rattle.cod_place.specs.Free.{HasSeen}
 use Rattle.cod_segment.specs.Events.{call_in}
+use Rattle.cod_segment.specs.Looks.{AreLooked}
 use Rattle.cod_seg.specs.Next.{open_in}
 use Rattle.cod_script.specs.Script.{Script}
 use Rattle.cod_accounts.specs.Working.{HasCalled}
@@ -65,3 +67,7 @@ returns-clause-called g c = λ x common of.
     } in q) c.call-answer.ensures.desk)
     c.call-answer.ensures.board c.call-answer.ensures.pools c.call-answer.ensures.seat.0 f.at c.args.pass.now c.pass.view_is (call_in c.args.slip) c.call-answer.result.position c.call-answer.result.stamp
     c.call-answer.result.reply c.call-answer.ensures.seat.1 (c.call-answer.ensures.made f.at.last f.at.ready.own)
+
+pub returns-clause-looked : goal.returns-clause-looked
+returns-clause-looked g c =
+    subst (λ (p : PassState). AreLooked (HasSeen p.pools c.call-answer.new.desk.pools) c.call-answer.result.reply) c.pass.view_is c.call-answer.ensures.looked

@@ -3,7 +3,7 @@ use Rattle.cod_code.specs.Columns.{has_column}
 use Rattle.cod_seg.specs.Seg.{col_at}
 use Rattle.cod_repair.specs.Columns.{HasValue, were_read}
 use Rattle.cod_repair.specs.Pieces.{kept_byte, sum_of, with_windows}
-use Rattle.cod_repair.proofs.window.sum_sources.Given as goal
+use Rattle.cod_repair.proofs.window.sum_read.Given as goal
 
 abbrev pub invariant-loop-i : goal.invariant-loop-i
 invariant-loop-i g l = record {
